@@ -1,0 +1,17 @@
+//! JSON values as the project knows them: texts, numbers, lists, and maps whose names are distinct
+//! and in order. Contracts see them as values without pointers.
+#![tactic(auto)]
+
+mod copy;
+mod depth;
+mod entries;
+mod items;
+mod no_memory;
+mod text;
+mod tree;
+
+pub use entries::Entries;
+pub use items::{Items, Raw};
+pub use no_memory::NoMemory;
+pub use text::{Iri, Text, Url};
+pub use tree::{Num, Tree};
