@@ -1,3 +1,4 @@
+pub mod CompactText
 pub mod Names
 pub mod Trees
 pub mod formers

@@ -7,6 +7,7 @@ use crate::items::Items;
 use crate::tree::Tree;
 
 impl Tree {
+    /// 0 for a scalar, else one more than the greatest depth within; at most `u32::MAX`.
     #[cycle(depth)]
     pub fn depth(&self) -> u32
         ensures { result ≡ min (depth_of self.now) (2 ^ 32 - 1) }

@@ -16,7 +16,8 @@ use std::cmp::Ordering;
 use std::marker::Model;
 use std::mem;
 
-/// Values by name. The names are distinct, and stand in the order of code points.
+/// Values by name, as a JSON object has them (RFC 8259, section 4). The names are distinct and stand in
+/// the order of code points, which contracts know of each value of this type, at every depth.
 #[derive(Debug, Drop)]
 pub struct Entries<T> {
     entries: Vec<(Text, T)>,
@@ -37,6 +38,7 @@ impl<T> Model for Entries<T> {
     ghost view = { λ e. (e.entries.items, e.in_order) };
 }
 
+// The place of the name, or the place where it belongs, by a search by halves.
 fn find<T>(entries: &[(Text, T)], name: &str) -> Result<usize, usize>
     requires { AreInOrder (keys_of entries.now) }
     ensures { MatchResult result (IsAt name.now (keys_of entries.now)) (IsPlace name.now (keys_of entries.now)) }
@@ -64,6 +66,7 @@ impl<T> Entries<T> {
         }
     }
 
+    /// Takes no memory.
     pub fn from_sorted(entries: Vec<(Text, T)>) -> Entries<T>
         requires { AreInOrder (keys_of entries.items) }
         ensures { result.0 ≡ entries.items }
@@ -85,6 +88,7 @@ impl<T> Entries<T> {
         self.entries.as_slice()
     }
 
+    /// The value under the name. The search takes time logarithmic in the number of entries.
     pub fn get(&self, name: &str) -> Option<&T>
         ensures { option_copied result ≡ lookup (is_at (name_cmp name.now)) self.now.0 }
     {
@@ -96,6 +100,8 @@ impl<T> Entries<T> {
 }
 
 impl<T: Drop> Entries<T> {
+    /// Puts one entry and gives the former one. The search is logarithmic, and the entries behind a new
+    /// name move by one place: names that come in order are appended.
     pub fn put(&mut self, name: Text, value: T) -> Result<Option<T>, (Text, T, NoMemory)>
         ensures former { IfOk result (λ old. old ≡ lookup (is_at (name_cmp name)) self.old.0) }
         ensures entries { OnOk result (self.new.0 ≡ insert_entry name_cmp self.old.0 name value) }

@@ -55,6 +55,7 @@ impl<T> Items<T> {
         items
     }
 
+    /// Appends; where memory is wanting the item comes back.
     pub fn push(&mut self, item: T) -> Result<(), (T, NoMemory)>
         ensures ok { OnOk result (self.new ≡ self.old ++ item ∷ []) }
         ensures given_back { IfErr result (λ e. e.0 ≡ item) }

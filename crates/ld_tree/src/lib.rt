@@ -7,6 +7,8 @@ mod depth;
 mod entries;
 mod items;
 mod no_memory;
+#[cfg(test)]
+mod tests;
 mod text;
 mod tree;
 
