@@ -1,0 +1,74 @@
+ghost use Rattle.std.specs.Prelude.{◌≡◌, ◌<◌, ◌≤◌, None, length, IfOk, OnOk, OnErr};
+
+use crate::faults::FaultCount;
+use crate::interrupted;
+use crate::outside::{Failed, Source};
+use std::io::Read;
+
+/// A source over a file, a pipe or a stream. It tells nothing of its bytes.
+///
+/// A call that a signal interrupts is tried anew, 64 times in all. An error of `R`, and the last
+/// interruption, answers `Failed`.
+#[derive(Debug, Drop)]
+pub struct StdSource<R: Read + Drop> {
+    reader: R,
+    faults: FaultCount,
+}
+
+impl<R: Read + Drop> StdSource<R> {
+    ghost use Rattle.ld_edge.specs.StdSource.{reader_of};
+
+    pub fn new(reader: R) -> StdSource<R>
+        ensures reader { reader_of result ≡ reader }
+        ensures faults { ⟦<StdSource<R> as Source>⟧.fault_count result ≡ 0 }
+    {
+        StdSource {
+            reader,
+            faults: FaultCount::new(),
+        }
+    }
+
+    pub fn into_inner(self) -> R
+        ensures { result ≡ reader_of self }
+    {
+        let StdSource { reader, faults: _ } = self;
+        reader
+    }
+}
+
+impl<R: Read + Drop> Source for StdSource<R> {
+    ghost use Rattle.std.specs.Io.KnownBytes.{ReadConsumes};
+    ghost use Rattle.ld_edge.specs.Faults.{next_count, NeverFalls, Rose};
+    ghost use Rattle.ld_edge.specs.StdSource.{reader_of};
+
+    ghost left = { λ _. None };
+
+    ghost fault_count = { λ s. s.faults.number };
+
+    ghost at_most_last = { λ s. s.faults.in_range };
+
+    fn read(&mut self, into: &mut [u8]) -> Result<usize, Failed>
+        requires { 0 < length into.old }
+
+        // Where the reader's own bytes are known to a proof, what it gave is handed on.
+        ensures within { IfOk result (λ n. n ≤ length into.new) }
+        ensures reader { ReadConsumes (R.remaining (reader_of self.old)) (R.remaining (reader_of self.new)) result into.new }
+
+        ensures keeps_count { OnOk result (self.new.faults.number ≡ self.old.faults.number) }
+        ensures counted { OnErr result (self.new.faults.number ≡ next_count self.old.faults.number) }
+        ensures rose { OnErr result (Rose self.old.faults.number self.new.faults.number) }
+        ensures never_falls { NeverFalls self.old.faults.number self.new.faults.number }
+    {
+        match interrupted::read(&mut self.reader, into) {
+            Ok(count) => Ok(count),
+            Err(_) => {
+                self.faults.rise();
+                Err(Failed)
+            }
+        }
+    }
+
+    fn faults(&self) -> u64 {
+        self.faults.number()
+    }
+}

@@ -1,0 +1,207 @@
+//! Sources and sinks, called through their traits.
+use crate::{Failed, FaultPlan, MemSink, MemSource, Sink, Source, Status, StdSink, StdSource};
+use ld_tree::Raw;
+use std::alloc::Global;
+use std::io;
+use std::io::{ErrorKind, Read, Write};
+use std::process::Abort;
+use std::test::Fail;
+
+type Answer = Result<usize, Failed>;
+
+// Reads into four bytes, once for each answer that is wanted, and gives what was read.
+fn read_bytes<S: Source>(
+    rt: &impl Abort,
+    alloc: Global,
+    source: &mut S,
+    wanted: &[Answer],
+) -> Result<Vec<u8>, Fail> {
+    let mut all = Vec::new(alloc);
+    let mut failures: u64 = 0;
+    for answer in wanted {
+        let mut piece = [0; 4];
+        let read = source.read(&mut piece);
+        assert_eq!(rt; read, *answer);
+        match read {
+            Ok(count) => all.extend_from_slice(&piece[..count])?,
+            Err(Failed) => failures = failures.saturating_add(1),
+        }
+        assert_eq!(rt; source.faults(), failures);
+    }
+    Ok(all)
+}
+
+// Writes what is left of the bytes, once for each answer that is wanted.
+fn write_bytes<K: Sink>(rt: &impl Abort, sink: &mut K, bytes: &[u8], wanted: &[Answer]) {
+    let mut rest = bytes;
+    let mut failures: u64 = 0;
+    for answer in wanted {
+        assert!(rt; !rest.is_empty());
+        let written = sink.write(rest);
+        assert_eq!(rt; written, *answer);
+        match written {
+            Ok(count) => rest = &rest[count..],
+            Err(Failed) => failures = failures.saturating_add(1),
+        }
+        assert_eq!(rt; sink.faults(), failures);
+    }
+    assert!(rt; rest.is_empty());
+}
+
+// The greatest piece, the calls that fail, and the answers.
+type Case = (usize, &'static [u64], &'static [Answer]);
+
+#[test]
+fn memory_gives_its_bytes(rt: HostRuntime) -> Result<(), Fail> {
+    let cases: [Case; 3] = [
+        (1, &[], &[Ok(1), Ok(1), Ok(1), Ok(1), Ok(1), Ok(0), Ok(0)]),
+        (3, &[2], &[Ok(3), Err(Failed), Ok(2), Ok(0), Ok(0)]),
+        (
+            9,
+            &[3, 1, 4],
+            &[Err(Failed), Ok(4), Err(Failed), Err(Failed), Ok(1), Ok(0)],
+        ),
+    ];
+    for (piece, fail_at, wanted) in &cases {
+        assert!(rt; *piece >= 1);
+        let bytes = Raw::from_vec(b"abcde".to_vec(rt.alloc())?);
+        let mut source = MemSource::new(bytes, *piece, fail_at.to_vec(rt.alloc())?);
+        let read = read_bytes(&rt, rt.alloc(), &mut source, wanted)?;
+        assert_eq!(rt; read.as_slice(), b"abcde".as_slice());
+    }
+    Ok(())
+}
+
+#[test]
+fn memory_takes_bytes(rt: HostRuntime) -> Result<(), Fail> {
+    let cases: [Case; 3] = [
+        (1, &[], &[Ok(1), Ok(1), Ok(1), Ok(1), Ok(1)]),
+        (3, &[2], &[Ok(3), Err(Failed), Ok(2)]),
+        (9, &[2, 1], &[Err(Failed), Err(Failed), Ok(5)]),
+    ];
+    for (piece, fail_at, wanted) in &cases {
+        assert!(rt; *piece >= 1);
+        let mut sink = MemSink::new(rt.alloc(), *piece, fail_at.to_vec(rt.alloc())?);
+        write_bytes(&rt, &mut sink, b"abcde", wanted);
+        assert_eq!(rt; sink.bytes(), b"abcde".as_slice());
+    }
+    Ok(())
+}
+
+// What a call of a fake meets.
+#[derive(Clone, Copy)]
+enum Weather {
+    Fair,
+    Signal,
+    Broken,
+    Full,
+}
+
+// Gives or takes one byte a call.
+#[derive(Drop)]
+struct Fake {
+    weather: &'static [Weather],
+    bytes: Vec<u8>,
+}
+
+impl Fake {
+    fn next_weather(&mut self) -> Weather {
+        match self.weather {
+            [] => Weather::Fair,
+            [first, rest @ ..] => {
+                self.weather = rest;
+                *first
+            }
+        }
+    }
+}
+
+impl Read for Fake {
+    fn read(&mut self, into: &mut [u8]) -> io::Result<usize> {
+        match self.next_weather() {
+            Weather::Signal => Err(ErrorKind::Interrupted.into()),
+            Weather::Broken => Err(ErrorKind::Other.into()),
+            Weather::Full => Ok(0),
+            Weather::Fair => {
+                if into.is_empty() || self.bytes.is_empty() {
+                    return Ok(0);
+                }
+                into[0] = self.bytes.remove(0);
+                Ok(1)
+            }
+        }
+    }
+}
+
+impl Write for Fake {
+    fn write(&mut self, bytes: &[u8]) -> io::Result<usize> {
+        match self.next_weather() {
+            Weather::Signal => Err(ErrorKind::Interrupted.into()),
+            Weather::Broken => Err(ErrorKind::Other.into()),
+            Weather::Full => Ok(0),
+            Weather::Fair => {
+                let taken = &bytes[..bytes.len().min(1)];
+                self.bytes.extend_from_slice(taken)?;
+                Ok(taken.len())
+            }
+        }
+    }
+
+    fn flush(&mut self) -> io::Result<()> {
+        Ok(())
+    }
+}
+
+#[test]
+fn a_reader_fails_once(rt: HostRuntime) -> Result<(), Fail> {
+    let fake = Fake {
+        weather: &[
+            Weather::Fair,
+            Weather::Broken,
+            Weather::Signal,
+            Weather::Signal,
+        ],
+        bytes: b"abc".to_vec(rt.alloc())?,
+    };
+    let mut source = StdSource::new(fake);
+    let wanted = [Ok(1), Err(Failed), Ok(1), Ok(1), Ok(0), Ok(0)];
+    let read = read_bytes(&rt, rt.alloc(), &mut source, &wanted)?;
+    assert_eq!(rt; read.as_slice(), b"abc".as_slice());
+    assert!(rt; source.into_inner().bytes.is_empty());
+    Ok(())
+}
+
+#[test]
+fn a_writer_fails_once_and_takes_nothing_once(rt: HostRuntime) {
+    let fake = Fake {
+        weather: &[
+            Weather::Signal,
+            Weather::Fair,
+            Weather::Broken,
+            Weather::Full,
+        ],
+        bytes: Vec::new(rt.alloc()),
+    };
+    let mut sink = StdSink::new(fake);
+    let wanted = [Ok(1), Err(Failed), Err(Failed), Ok(1), Ok(1)];
+    write_bytes(&rt, &mut sink, b"abc", &wanted);
+    assert_eq!(rt; sink.into_inner().bytes.as_slice(), b"abc".as_slice());
+}
+
+#[test]
+fn a_plan_counts_failures(rt: HostRuntime) -> Result<(), Fail> {
+    let mut plan = FaultPlan::new([2].to_vec(rt.alloc())?);
+    assert_eq!(rt;
+        [plan.next_fails(), plan.next_fails(), plan.next_fails()],
+        [false, true, false]
+    );
+    plan.count_fault();
+    assert_eq!(rt; plan.faults(), 2);
+    Ok(())
+}
+
+#[test]
+fn a_status_has_its_number(rt: HostRuntime) {
+    assert_eq!(rt; Status::Done.code(), 0);
+    assert_eq!(rt; Status::InputTooLong.code(), 8);
+}
