@@ -32,7 +32,7 @@ fn is_listed(sorted: &[u64], call: u64) -> bool
 
 impl FaultPlan {
     ghost use Rattle.std.specs.Prelude.{if◌then◌else◌};
-    ghost use Rattle.ld_edge.specs.Faults.{next_count, Rose};
+    ghost use Rattle.ld_edge.specs.Faults.{next_count};
     ghost use Rattle.ld_edge.specs.Memory.{next_call, NextFails};
 
     /// The calls whose numbers are in `fail_at` fail. Takes no memory.
