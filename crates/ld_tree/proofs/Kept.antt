@@ -1,6 +1,6 @@
 -- What holds of each kind of value, and of what is made of such values, holds of each tree that bytes read as.
-use Rattle.std.proofs.Common.{◌≡◌, ◌∙◌, refl, sym, ap, ap₂, subst, Bool, true, false, ◌&&◌, ℕ, zero, suc, ◌+◌, ◌^◌, ◌<◌, ◌≤◌, max, List, [], ◌∷◌, map, arith, lt-ltb, nat_lt}
-use Rattle.std.specs.Prelude.{ℤ, pos, negsuc, neg_ℤ}
+use Rattle.std.proofs.Common.{◌≡◌, ◌∙◌, refl, sym, subst, Bool, true, false, ℕ, zero, suc, ◌+◌, ◌^◌, ◌≤◌, List, [], ◌∷◌, map, arith, lt-ltb}
+use Rattle.std.specs.Prelude.{ℤ, pos, neg_ℤ}
 use Rattle.std.specs.Str.{IsUtf8, is_utf8}
 use Rattle.std.proofs.lemmas.Str.{is_utf8-from_IsUtf8}
 use Rattle.std.specs.declared.cmp.Ordering.{Ordering}
@@ -12,7 +12,7 @@ use Rattle.std.specs.BTreeMap.{insert_entry}
 use Rattle.ld_tree.specs.Names.{Sorted, name_cmp}
 use Rattle.ld_tree.specs.Trees.{depth_of, depth_step, greatest}
 use Rattle.ld_tree.specs.Bounds.{fits, fits_step, in_64_bits, spelled, spelled_step, all_true, all_utf8}
-use Rattle.ld_tree.specs.Reading.{IsNumber, natural, negative, value_of, past_space, past_mark, put_all, IsValue, a_null, a_true, a_false, a_number, a_text, a_list, a_map, IsItems, no_items, items, IsMoreItems, end_items, more_items, IsMember, member, IsMembers, no_members, members, IsMoreMembers, end_members, more_members, reads}
+use Rattle.ld_tree.specs.Reading.{IsNumber, natural, negative, value_of, put_all, IsValue, a_null, a_true, a_false, a_number, a_text, a_list, a_map, IsItems, no_items, items, IsMoreItems, end_items, more_items, IsMember, member, IsMembers, no_members, members, IsMoreMembers, end_members, more_members, reads}
 use Rattle.ld_tree.specs.declared.tree.Num.TheVariants as n
 use Rattle.ld_tree.specs.declared.tree.Tree as t
 use Rattle.ld_tree.specs.declared.tree.Tree.{Tree}

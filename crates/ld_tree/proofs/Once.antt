@@ -1,9 +1,9 @@
 -- Bytes read in at most one way.
-use Rattle.std.proofs.Common.{◌≡◌, ◌≢◌, ◌∙◌, refl, sym, ap, ap₂, subst, Bool, true, false, cond, not, true≢false, ◌&&◌, ◌||◌, ℕ, zero, suc, ◌<◌, ◌≤◌, List, [], ◌∷◌, ◌++◌, Option, Some, None, nat_lt, arith, ltb-true, lt-ltb, eq-eqb, nat_eq}
+use Rattle.std.proofs.Common.{◌≡◌, ◌∙◌, refl, sym, ap, ap₂, subst, Bool, true, false, not, true≢false, ◌&&◌, ◌||◌, ℕ, suc, List, [], ◌∷◌, ◌++◌, Some, None, nat_lt, eq-eqb, nat_eq}
 use Rattle.std.specs.Prelude.{ℤ, pos, neg_ℤ}
 use Rattle.std.specs.Char.{encode_utf8}
 use Rattle.ld_tree.specs.Names.{Sorted, same_sorted}
-use Rattle.ld_tree.specs.Reading.{IsChar, unescaped, letter, unit, pair, IsChars, closing, char, IsString, is_unescaped, escaped, hex4, is_high_half, is_low_half, of_pair, is_digit, are_digits, is_int, goes_on, ends_number, value_of, IsNumber, natural, negative, past_space, past_mark, put_all, IsValue, a_null, a_true, a_false, a_number, a_text, a_list, a_map, IsItems, no_items, items, IsMoreItems, end_items, more_items, IsMember, member, IsMembers, no_members, members, IsMoreMembers, end_members, more_members, reads}
+use Rattle.ld_tree.specs.Reading.{IsChar, unescaped, letter, unit, pair, IsChars, closing, char, IsString, is_unescaped, escaped, hex4, is_high_half, is_low_half, of_pair, is_digit, are_digits, is_int, goes_on, ends_number, value_of, IsNumber, natural, negative, past_space, put_all, IsValue, a_null, a_true, a_false, a_number, a_text, a_list, a_map, IsItems, no_items, items, IsMoreItems, end_items, more_items, IsMember, member, IsMembers, no_members, members, IsMoreMembers, end_members, more_members, reads}
 use Rattle.ld_tree.specs.declared.tree.Num.TheVariants as n
 use Rattle.ld_tree.specs.declared.tree.Tree as t
 use Rattle.ld_tree.specs.declared.tree.Tree.{Tree}

@@ -1,13 +1,13 @@
 -- What reads is UTF-8.
-use Rattle.std.proofs.Common.{◌≡◌, ◌∙◌, refl, sym, ap, subst, Bool, true, false, cond, true≢false, ◌&&◌, ◌||◌, inl, inr, ◌⊎◌, ℕ, zero, suc, ◌+◌, ◌-◌, ◌*◌, ◌/◌, ◌%◌, ◌<◌, ◌≤◌, List, [], ◌∷◌, ◌++◌, length, take, drop, get_or, Option, Some, None, nat_lt, nat_eq, eqb-true, ltb-true, ltb-false, lt-ltb, le-ltb, arith, append_assoc, append-nil, length-append}
+use Rattle.std.proofs.Common.{◌≡◌, ◌∙◌, refl, sym, subst, Bool, true, false, cond, true≢false, ◌&&◌, ◌||◌, inl, inr, ℕ, ◌+◌, ◌-◌, ◌*◌, ◌/◌, ◌%◌, ◌<◌, ◌≤◌, List, [], ◌∷◌, ◌++◌, length, get_or, Option, Some, None, nat_lt, nat_eq, eqb-true, ltb-true, lt-ltb, le-ltb, arith, append_assoc, append-nil, length-append}
 use Rattle.std.proofs.lemmas.Bool.{cases_lt}
 use Rattle.std.specs.Prelude.{ℤ}
 use Rattle.std.specs.Str.{IsUtf8, IsCharBoundary}
-use Rattle.std.specs.Char.{encode_utf8, IsScalar}
+use Rattle.std.specs.Char.{IsScalar}
 use Rattle.std.proofs.Math.Utf8.{encode}
 use Rattle.std.proofs.Math.Seq.{take-append_seam, drop-append_seam}
 use Rattle.std.proofs.lemmas.Str.{IsUtf8-append, IsUtf8-nil, IsUtf8-encode, IsUtf8-take, IsUtf8-drop, IsUtf8-past_char, encode_ascii}
-use Rattle.ld_tree.specs.Reading.{is_white, past_space, past_mark, is_unescaped, escaped, hex, more_hex, hex4, is_high_half, is_low_half, of_pair, IsChar, unescaped, letter, unit, pair, IsChars, closing, char, IsString, is_digit, are_digits, IsNumber, natural, negative, IsValue, a_null, a_true, a_false, a_number, a_text, a_list, a_map, IsItems, no_items, items, IsMoreItems, end_items, more_items, IsMember, member, IsMembers, no_members, members, IsMoreMembers, end_members, more_members, reads}
+use Rattle.ld_tree.specs.Reading.{is_white, past_space, past_mark, escaped, hex, more_hex, hex4, is_high_half, is_low_half, of_pair, unescaped, letter, unit, pair, IsChars, closing, char, IsString, is_digit, are_digits, IsNumber, natural, negative, IsValue, a_null, a_true, a_false, a_number, a_text, a_list, a_map, IsItems, no_items, items, IsMoreItems, end_items, more_items, IsMember, member, IsMembers, no_members, members, IsMoreMembers, end_members, more_members, reads}
 use Rattle.ld_tree.specs.declared.tree.Tree.{Tree}
 use Rattle.ld_tree.proofs.Once.{both, all_so, neither, int_digits}
 
@@ -48,6 +48,7 @@ escaped_low e c h = go (nat_eq e 34) (nat_eq e 92) (nat_eq e 47) (nat_eq e 98) (
   where
     is : (k x : ℕ) → nat_eq e k ≡ true → k < 128 → Some x ≡ Some c → x < 128 → (e < 128) × (c < 128)
     is k x h lt w lt' = let same : x ≡ c = cc in (omega (arith, eqb-true e k h), subst (λ x. x < 128) same lt')
+
     go : (a b i d f g j k : Bool) → nat_eq e 34 ≡ a → nat_eq e 92 ≡ b → nat_eq e 47 ≡ i → nat_eq e 98 ≡ d → nat_eq e 102 ≡ f → nat_eq e 110 ≡ g → nat_eq e 114 ≡ j → nat_eq e 116 ≡ k
         → cond a (Some 34) (cond b (Some 92) (cond i (Some 47) (cond d (Some 8) (cond f (Some 12) (cond g (Some 10) (cond j (Some 13) (cond k (Some 9) None))))))) ≡ Some c → (e < 128) × (c < 128)
     go true b i d f g j k h0 h1 h2 h3 h4 h5 h6 h7 w = is 34 34 h0 (omega arith) w (omega arith)
@@ -70,6 +71,7 @@ hex_low b d h = go (nat_lt 47 b && nat_lt b 58) (nat_lt 64 b && nat_lt b 71) (na
         let up = ltb-true b high parts.1 in
         let down = ltb-true low b parts.0 in
         (omega (arith, up), subst (λ d. d < 16) same (omega (arith, up, down)))
+
     go : (x y z : Bool) → nat_lt 47 b && nat_lt b 58 ≡ x → nat_lt 64 b && nat_lt b 71 ≡ y → nat_lt 96 b && nat_lt b 103 ≡ z
         → cond x (Some (b - 48)) (cond y (Some (b - 55)) (cond z (Some (b - 87)) None)) ≡ Some d → (b < 128) × (d < 16)
     go true y z p q r w = within 47 58 48 p (omega arith) (omega arith) (omega arith) w

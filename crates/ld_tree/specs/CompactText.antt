@@ -1,5 +1,5 @@
 -- The compact text of a tree: JSON (RFC 8259) with no white space, the names of a map in the order of code points.
-use Rattle.std.specs.Prelude.{ℕ, ◌+◌, ◌/◌, ◌%◌, ◌==◌, nat_lt, Bool, true, false, cond, if◌then◌else◌, List, [], ◌∷◌, ◌++◌, codes}
+use Rattle.std.specs.Prelude.{ℕ, ◌+◌, ◌/◌, ◌%◌, ◌==◌, nat_lt, Bool, true, false, if◌then◌else◌, List, [], ◌∷◌, ◌++◌, codes}
 use Rattle.std.specs.Fmt.{signed_decimal}
 use Rattle.ld_tree.specs.declared.tree.Num.{Num}
 use Rattle.ld_tree.specs.declared.tree.Num.TheVariants.{Whole, OneOne}

@@ -1,5 +1,4 @@
 -- Recursion in which a step sees each child beside what the recursion gives for it.
-use Rattle.std.specs.Prelude.{List}
 use Rattle.ld_tree.specs.declared.tree.Tree.{Tree}
 use Rattle.ld_tree.specs.declared.tree.Tree.TheOpen.{Tree-F}
 use Rattle.ld_tree.specs.declared.tree.Tree.TheViews.{roll-Tree}
