@@ -1,0 +1,5 @@
+pub mod Making
+pub mod Levels
+pub mod Kept
+pub mod Steps
+pub mod Refusals

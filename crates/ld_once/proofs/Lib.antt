@@ -1,0 +1,6 @@
+pub mod CommandLine
+pub mod Contract
+pub mod Endings
+pub mod Known
+pub mod Pieces
+pub mod Replied

@@ -1,0 +1,41 @@
+//! The program: one run of what the words ask for, from the bytes read to the bytes written.
+#![tactic(auto)]
+
+mod input;
+mod output;
+mod print;
+mod reply;
+mod run;
+#[cfg(test)]
+mod tests;
+
+use ld_edge::{Status, StdSink, StdSource};
+use run::run_once;
+use std::alloc::Global;
+use std::env::Env;
+use std::process::ExitCode;
+use std::{env, io};
+
+// The words after the program's name. Where one isn't UTF-8 there are none, which is no form either.
+fn words<R: Env + AllocGlobal>(rt: &R) -> Result<Vec<String>, Status> {
+    match env::args(rt) {
+        Ok(args) => args
+            .skip(1)
+            .collect(rt.alloc())
+            .map_err(|_| Status::NoMemory),
+        Err(error) if error.kind() == io::ErrorKind::OutOfMemory => Err(Status::NoMemory),
+        Err(_) => Ok(Vec::new(rt.alloc())),
+    }
+}
+
+fn main(rt: HostRuntime) -> ExitCode {
+    let status = match words(&rt) {
+        Ok(words) => {
+            let mut input = StdSource::new(rt.stdin());
+            let mut output = StdSink::new(rt.stdout());
+            run_once(rt.alloc(), words.as_slice(), &mut input, &mut output)
+        }
+        Err(status) => status,
+    };
+    ExitCode::from(status.code())
+}

@@ -1,0 +1,121 @@
+ghost use Rattle.std.specs.Prelude.{◌≤◌};
+
+use crate::run::run_once;
+use ld_edge::{MemSink, MemSource, Status};
+use ld_tree::Raw;
+use std::alloc::Global;
+use std::test::Fail;
+
+const ANN: &str =
+    "{\"document\":{\"@id\":\"http://a.example/1\",\"http://xmlns.com/foaf/0.1/name\":\"Ann\"}}";
+
+const ANN_EXPANDED: &str =
+    "[{\"@id\":\"http://a.example/1\",\"http://xmlns.com/foaf/0.1/name\":[{\"@value\":\"Ann\"}]}]\n";
+
+const USAGE: &str =
+    "usage: expand | compact | flatten | schedule | soak <n> | serve <address> <workers> <connections> <every>\n";
+
+// Runs over memory objects that take at most `piece` bytes a call, and fail at the calls listed.
+fn run(
+    alloc: Global,
+    form: &[&str],
+    input: Vec<u8>,
+    piece: usize,
+    read_fails: &[u64],
+    write_fails: &[u64],
+) -> Result<(Status, MemSink), Fail>
+    requires { 1 ≤ piece }
+{
+    let mut words = Vec::new(alloc);
+    for word in form {
+        words.push(String::from_str(alloc, word)?)?;
+    }
+    let mut source = MemSource::new(Raw::from_vec(input), piece, read_fails.to_vec(alloc)?);
+    let mut sink = MemSink::new(alloc, piece, write_fails.to_vec(alloc)?);
+    let status = run_once(alloc, words.as_slice(), &mut source, &mut sink);
+    Ok((status, sink))
+}
+
+#[test]
+fn answers_inputs(rt: HostRuntime) -> Result<(), Fail> {
+    let not_json = "{\"own\":\"not json\"}\n";
+    let not_built = "{\"own\":\"not built\"}\n";
+    let cases = [
+        (ANN, Status::Done, ANN_EXPANDED),
+        (
+            "{\"document\":{\"http://e/p\":[5,null,[true]],\"q\":1}}",
+            Status::Done,
+            "[{\"http://e/p\":[{\"@value\":5},{\"@value\":true}]}]\n",
+        ),
+        ("{\"document\":{}}", Status::Done, "[]\n"),
+        ("{\"document\":null}", Status::Done, "[]\n"),
+        ("{\"document\":[]}", Status::Done, "[]\n"),
+        (
+            "{\"document\":{\"@context\":{}}}",
+            Status::Refused,
+            not_built,
+        ),
+        (
+            "{\"document\":{},\"base\":null}",
+            Status::Refused,
+            not_built,
+        ),
+        ("[]", Status::Refused, not_built),
+        ("{\"document\":", Status::Refused, not_json),
+        ("", Status::Refused, not_json),
+    ];
+    for (input, status, output) in cases {
+        let bytes = input.as_bytes().to_vec(rt.alloc())?;
+        let seen = run(rt.alloc(), &["expand"], bytes, 7, &[], &[])?;
+        assert_eq!(rt; seen.0, status, "{input}");
+        assert_eq!(rt; seen.1.bytes(), output.as_bytes(), "{input}");
+    }
+    Ok(())
+}
+
+#[test]
+fn each_read_and_write_may_fail(rt: HostRuntime) -> Result<(), Fail> {
+    let alloc = rt.alloc();
+    let input = b"{\"document\":[1]} ";
+    let output = b"[]\n";
+    // One read for each byte, and one that finds the end.
+    for call in 1..=18 {
+        let seen = run(alloc, &["expand"], input.to_vec(alloc)?, 1, &[call], &[])?;
+        assert_eq!(rt; seen.0, Status::ReadFault, "read {call}");
+        assert!(rt; seen.1.bytes().is_empty(), "read {call}");
+    }
+    for call in 1..=3 {
+        let seen = run(alloc, &["expand"], input.to_vec(alloc)?, 1, &[19], &[call])?;
+        let written = call as usize - 1;
+        assert_eq!(rt; seen.0, Status::WriteFault, "write {call}");
+        assert_eq!(rt; seen.1.bytes(), &output[..written], "write {call}");
+    }
+    let seen = run(alloc, &["expand"], input.to_vec(alloc)?, 1, &[19], &[4])?;
+    assert_eq!(rt; seen.0, Status::Done);
+    assert_eq!(rt; seen.1.bytes(), output.as_slice());
+    Ok(())
+}
+
+#[test]
+fn words_and_lengths_have_limits(rt: HostRuntime) -> Result<(), Fail> {
+    let alloc = rt.alloc();
+    let forms: [&[&str]; 4] = [&[], &["expand", "x"], &["Expand"], &["compact"]];
+    for form in forms {
+        let seen = run(alloc, form, Vec::new(alloc), 64, &[1], &[])?;
+        assert_eq!(rt; seen.0, Status::Usage);
+        assert_eq!(rt; seen.1.bytes(), USAGE.as_bytes());
+    }
+    let mut longest = vec![in alloc; b' '; 4_194_304 - ANN.len()]?;
+    longest.extend_from_slice(ANN.as_bytes())?;
+    let seen = run(alloc, &["expand"], longest, 1_000_000, &[], &[])?;
+    assert_eq!(rt; seen.0, Status::Done);
+    assert_eq!(rt; seen.1.bytes(), ANN_EXPANDED.as_bytes());
+    let too_long = vec![in alloc; b' '; 4_194_305]?;
+    let seen = run(alloc, &["expand"], too_long, 1_000_000, &[], &[])?;
+    assert_eq!(rt; seen.0, Status::InputTooLong);
+    assert_eq!(rt;
+        seen.1.bytes(),
+        b"{\"own\":\"input too long\"}\n".as_slice()
+    );
+    Ok(())
+}

@@ -1,0 +1,10 @@
+use Rattle.std.proofs.Common.{◌≤◌, length}
+use Rattle.ld_tree_read.specs.Cursor.{left}
+use Rattle.ld_tree_read.proofs.Scan.{Continues}
+use Rattle.ld_tree_read.proofs.string.read_string.Given as goal
+
+abbrev pub invariant-loop-text : goal.invariant-loop-text
+invariant-loop-text l = record { continues : Continues (left l.fn.cursor) l.text.items (left l.cursor); shorter : length (left l.cursor) ≤ length (left l.fn.cursor) }
+
+abbrev pub decreases-loop-text : goal.decreases-loop-text
+decreases-loop-text l = length (left l.cursor)

@@ -1,0 +1,4 @@
+pub mod Cursor
+pub mod Outcome
+pub mod State
+pub mod Tokens

@@ -1,0 +1,74 @@
+ghost use Rattle.std.specs.Prelude.{◌≤◌, length};
+
+/// A place in the input, between two of its bytes.
+#[derive(Debug, Drop)]
+pub struct Cursor<'a> {
+    input: &'a [u8],
+    at: usize,
+    ghost within: { at ≤ length input.now },
+}
+
+impl<'a> Cursor<'a> {
+    ghost use Rattle.std.specs.Prelude.{◌≡◌, ℕ, List, [], ◌∷◌, ◌++◌, drop, false, IsTrue, IfSome, IfNone};
+    ghost use Rattle.ld_tree_read.specs.Cursor.{left};
+
+    pub fn new(input: &'a [u8]) -> Cursor<'a>
+        ensures { left result ≡ input.now }
+    {
+        Cursor { input, at: 0 }
+    }
+
+    /// The bytes that are left.
+    pub fn rest(&self) -> &'a [u8]
+        ensures { result.now ≡ left self.now }
+    {
+        &self.input[self.at..]
+    }
+
+    /// Goes past `count` bytes.
+    pub fn advance(&mut self, count: usize)
+        requires { count ≤ length (left self.old) }
+        ensures { left self.new ≡ drop count (left self.old) }
+    {
+        self.at += count;
+    }
+
+    /// Goes past the next byte, and returns it.
+    pub fn next_byte(&mut self) -> Option<u8>
+        ensures some { IfSome result (λ b. left self.old ≡ b ∷ left self.new) }
+        ensures none { IfNone result (left self.old ≡ []) }
+    {
+        if self.at >= self.input.len() {
+            return None;
+        }
+        let byte = self.input[self.at];
+        self.at += 1;
+        Some(byte)
+    }
+
+    /// Goes past this byte, if it is next.
+    pub fn eat(&mut self, byte: u8) -> bool
+        ensures eaten { IsTrue result → left self.old ≡ byte ∷ left self.new }
+        ensures other { result ≡ false → (r : List ℕ) → left self.old ≡ byte ∷ r → ⊥ }
+        ensures unmoved { result ≡ false → left self.new ≡ left self.old }
+    {
+        if self.at >= self.input.len() || self.input[self.at] != byte {
+            return false;
+        }
+        self.at += 1;
+        true
+    }
+
+    /// Goes past this word, if it is next.
+    pub fn eat_word(&mut self, word: &[u8]) -> bool
+        ensures eaten { IsTrue result → left self.old ≡ word.now ++ left self.new }
+        ensures other { result ≡ false → (r : List ℕ) → left self.old ≡ word.now ++ r → ⊥ }
+        ensures unmoved { result ≡ false → left self.new ≡ left self.old }
+    {
+        if !self.rest().starts_with(word) {
+            return false;
+        }
+        self.advance(word.len());
+        true
+    }
+}

@@ -1,0 +1,19 @@
+//! Reading trees from JSON texts (RFC 8259).
+#![tactic(auto)]
+
+mod cursor;
+mod escape;
+mod frame;
+mod members;
+mod number;
+mod parse;
+mod refusal;
+mod scalar;
+mod space;
+mod string;
+
+pub use parse::read_tree;
+pub use refusal::ReadRefusal;
+
+#[cfg(test)]
+mod tests;
