@@ -1,15 +1,15 @@
 """Times `./tulleshale expand` on doubling documents, beside Python's json and, where it is installed, PyLD.
 
 Run by hand, at the top of the repository: python3 bench/expand.py
-What counts are the ratios: of one size to half of it (near 2), and of two programs in one run.
+What counts are the ratios: of one size to half of it (near 2), and of two programs in one run. Times are those of
+the processor, so that other work on the machine tells little.
 """
 
-import json
+import os
 import pathlib
 import subprocess
 import sys
 import tempfile
-import time
 
 from documents import KINDS, SIZES, envelope
 
@@ -27,14 +27,16 @@ json.dumps(json.load(open(sys.argv[1])), separators=(",", ":"))
 """
 
 
-def best(command, stdin=None):
-    """The least time of some runs, in seconds."""
+def best(command, stdin="/dev/null", runs=RUNS):
+    """The least time of the processor over some runs, in seconds."""
     times = []
-    for _ in range(RUNS):
-        start = time.perf_counter()
-        with open(stdin or "/dev/null", "rb") as source:
-            subprocess.run(command, stdin=source, stdout=subprocess.DEVNULL, check=True)
-        times.append(time.perf_counter() - start)
+    for _ in range(runs):
+        with open(stdin, "rb") as source:
+            child = subprocess.Popen(command, stdin=source, stdout=subprocess.DEVNULL)
+        _, status, used = os.wait4(child.pid, 0)
+        if status != 0:
+            raise SystemExit(f"{command[0]} ended with wait status {status}")
+        times.append(used.ru_utime + used.ru_stime)
     return min(times)
 
 
@@ -43,10 +45,12 @@ def has_pyld(python):
 
 
 def main():
-    program = str(TOP / "tulleshale")
-    subprocess.run([program, "expand"], input=b'{"document":{}}', stdout=subprocess.DEVNULL, check=True)
+    # The script builds the program where it must; what is timed is the program.
+    subprocess.run([str(TOP / "tulleshale"), "expand"], input=b'{"document":{}}', stdout=subprocess.DEVNULL, check=True)
+    program = str(TOP / "build" / "tulleshale")
     python = next((p for p in ("/usr/bin/python3", sys.executable) if has_pyld(p)), None)
-    startup = best([sys.executable, "-c", "import json"])
+    startup = best([sys.executable, "-c", "import json, sys"])
+    print("json and PyLD: how many times longer Python's json (read and write) and PyLD's expand take")
     print(f"{'document':16} {'MB':>5} {'seconds':>8} {'ratio':>6} {'MB/s':>6} {'json':>6} {'PyLD':>7}")
     with tempfile.TemporaryDirectory() as folder:
         for kind in KINDS:
@@ -58,7 +62,7 @@ def main():
                 megabytes = len(text) / 1e6
                 own = best([program, "expand"], path)
                 reading = best([sys.executable, "-c", PYTHON_JSON, path]) - startup
-                pyld = f"{best([python, '-c', PYLD, path]) / own:6.0f}x" if python and size == SIZES[0] else ""
+                pyld = f"{best([python, '-c', PYLD, path], runs=1) / own:6.0f}x" if python else ""
                 ratio = f"{own / before:6.2f}" if before else ""
                 print(f"{kind.__name__:16} {megabytes:5.2f} {own:8.3f} {ratio:>6} {megabytes / own:6.0f} {reading / own:5.1f}x {pyld:>7}")
                 before = own
