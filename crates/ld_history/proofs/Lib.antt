@@ -1,0 +1,4 @@
+pub mod Undo
+pub mod Whole
+pub mod Allowed
+pub mod Turns

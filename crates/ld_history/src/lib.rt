@@ -1,0 +1,21 @@
+//! The history of the context store: its events, the state after a list of them, and which event
+//! may come next. Nothing here is a thread or a lock.
+#![tactic(auto)]
+
+mod changes;
+mod event;
+mod keep;
+mod limits;
+mod name;
+mod refusal;
+mod rules;
+mod session;
+mod state;
+mod tables;
+#[cfg(test)]
+mod tests;
+
+pub use event::{Entry, Event, Given, How};
+pub use limits::Limits;
+pub use refusal::StepRefusal;
+pub use state::{State, step};

@@ -1,0 +1,87 @@
+//! A history with the tables that a step reads, and the one way in which it grows.
+ghost use Rattle.std.specs.Prelude.{◌≡◌, [], ◌∷◌, ◌++◌, length, true, false, IfOk, OnOk, OnErr};
+ghost use Rattle.ld_history.specs.Rules.{allows};
+ghost use Rattle.ld_history.specs.Legal as legal;
+
+use crate::event::Entry;
+use crate::limits::Limits;
+use crate::name::{Answer, Name};
+use crate::refusal::StepRefusal;
+use crate::tables::Tables;
+use ld_tree::NoMemory;
+use std::alloc::Global;
+use std::marker::Model;
+
+/// A history under limits, each entry of which the rules allow after those before it. Contracts see
+/// the limits and the list of entries.
+#[derive(Debug, Drop)]
+pub struct State {
+    limits: Limits,
+    history: Vec<Entry<Name, Answer>>,
+    tables: Tables,
+}
+
+impl Model for State {
+    ghost use Rattle.ld_history.specs.Legal.{History};
+
+    ghost Value = { History };
+
+    ghost use Rattle.ld_history.specs.Seen.{seen};
+    ghost use Rattle.ld_history.specs.Legal.{IsKept};
+
+    ghost view = { λ s. record { limits = s.limits; entries = s.history.items } };
+
+    ghost invariant = { λ s. IsKept s.limits s.history.items (seen s.tables) };
+}
+
+impl State {
+    /// The empty history under these limits.
+    pub fn new(alloc: Global, limits: Limits) -> Result<State, NoMemory>
+        requires { legal.AreWithin limits }
+        ensures { IfOk result (λ state. state ≡ record { limits = limits; entries = [] }) }
+    {
+        Ok(State {
+            limits,
+            history: Vec::new(alloc),
+            tables: Tables::new(alloc),
+        })
+    }
+}
+
+impl State {
+    /// How many entries the history has. It is legal: the rules allow each entry after those before it.
+    pub fn events(&self) -> u64
+        ensures count { result ≡ length self.now.entries }
+        ensures legal { legal.Legal self.now.limits self.now.entries }
+    {
+        self.history.len() as u64
+    }
+}
+
+/// Appends the entry to the history exactly where the rules allow it there. Either refusal leaves the
+/// history as it was. Its time is logarithmic in what the tables hold, but for what looks at each open
+/// session or each stored context, of which there are at most 256.
+pub fn step(alloc: Global, state: &mut State, entry: Entry) -> Result<(), StepRefusal>
+    ensures allowed { OnOk result (allows state.old.limits (legal.state state.old.entries) entry ≡ true) }
+    ensures appended { OnOk result (state.new ≡ record state.old { entries = state.old.entries ++ entry ∷ [] }) }
+    ensures refused { result ≡ Err StepRefusal.NotAllowed → allows state.old.limits (legal.state state.old.entries) entry ≡ false }
+    ensures unchanged { OnErr result (state.new ≡ state.old) }
+{
+    let entry = state.tables.keep(alloc, entry)?;
+    if !state.tables.allows(&state.limits, &entry) {
+        return Err(StepRefusal::NotAllowed);
+    }
+    append(alloc, state, entry)?;
+    Ok(())
+}
+
+fn append(alloc: Global, state: &mut State, entry: Entry<Name, Answer>) -> Result<(), NoMemory>
+    requires { allows state.old.limits (legal.state state.old.entries) entry ≡ true }
+    ensures appended { OnOk result (state.new ≡ record state.old { entries = state.old.entries ++ entry ∷ [] }) }
+    ensures unchanged { OnErr result (state.new ≡ state.old) }
+{
+    state.history.reserve(1)?;
+    state.tables.take(alloc, &entry)?;
+    state.history.push(entry)?;
+    Ok(())
+}
