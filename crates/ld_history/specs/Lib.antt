@@ -5,3 +5,5 @@ pub mod Rules
 pub mod After
 pub mod Legal
 pub mod Seen
+pub mod Counts
+pub mod Laws

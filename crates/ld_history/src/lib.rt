@@ -5,6 +5,7 @@
 mod changes;
 mod event;
 mod keep;
+mod laws;
 mod limits;
 mod name;
 mod refusal;
@@ -16,6 +17,10 @@ mod tables;
 mod tests;
 
 pub use event::{Entry, Event, Given, How};
+pub use laws::{
+    ends_are_allowed, flights_are_single, held_stays, lacks_differ, places_suffice,
+    requests_are_short, room_is_kept, versions_rise,
+};
 pub use limits::Limits;
 pub use refusal::StepRefusal;
 pub use state::{State, step};

@@ -1,0 +1,10 @@
+pub mod Cuts
+pub mod Segments
+pub mod Targets
+pub mod Ways
+pub mod Relatives
+pub mod Joined
+pub mod LeadsBack
+pub mod Clean
+pub mod CleanPaths
+pub mod Schemes
