@@ -10,6 +10,7 @@ use Rattle.ld_history.specs.Store.{Store}
 use Rattle.ld_history.specs.Words.{at_number, at_iri, flight_at, is_under_way, is_lead, is_stored_answer, is_some_and, is_pinned, flights_under_way, archive_has_room}
 use Rattle.ld_history.specs.declared.event.Event.{Event}
 use Rattle.ld_history.specs.After.{ReliesOn}
+use Rattle.ld_history.proofs.LawReads.{read_open}
 use Rattle.ld_history.specs.Rules.{allows_given, made_place, lacks, has_place, is_next_version}
 
 left : (a b : Bool) → a && b ≡ true → a ≡ true
@@ -43,19 +44,26 @@ led limits store session iri flight small (Some s) h =
     let place : has_place limits store iri flight ≡ true = right _ _ h in
     (absent (at_iri store.leads iri) (right _ _ (left _ _ (left _ _ (left _ _ place)))), fits limits store iri flight s (right _ _ (left _ _ h)) place small)
 
+later : (store : Store) (version : ℕ) → is_next_version store version ≡ true → store.version < version
+later store version h = grind (arith, nat_tests)
+
 next : (store : Store) (version : ℕ) → is_next_version store version ≡ true → store.version ≤ version
 next store version h = grind (arith, nat_tests)
 
 publishes : (store : Store) (version : ℕ) (given : Given) (o : Option Flight)
-    → is_some_and (λ f. is_under_way f.end && (is_next_version store version && nat_le given.length 1048577 && (is_lead f.kind || not (is_stored_answer store f.iri given)))) o ≡ true → store.version ≤ version
+    → is_some_and (λ f. is_under_way f.end && (is_next_version store version && nat_le given.length 1048577 && (is_lead f.kind || not (is_stored_answer store f.iri given)))) o ≡ true → store.version < version
 publishes store version given None h = cc
-publishes store version given (Some f) h = next store version (left _ _ (left _ _ (right _ _ h)))
+publishes store version given (Some f) h = later store version (left _ _ (left _ _ (right _ _ h)))
 
-pub room : (limits : Limits) (store : Store) (e : Event (List ℕ)) (given : Option Given) → allows_given limits store e given ≡ true → limits.bytes ≤ 134217728 → ReliesOn store e
-room limits store (event.Led session iri flight) (Some given) allowed small = cc
-room limits store (event.Led session iri flight) None allowed small = led limits store session iri flight small (at_number store.sessions session) allowed
-room limits store (event.Published flight version) None allowed small = cc
-room limits store (event.Published flight version) (Some given) allowed small = publishes store version given (flight_at store.flights flight) allowed
-room limits store (event.Evicted session iri version) (Some given) allowed small = cc
-room limits store (event.Evicted session iri version) None allowed small = next store version (right _ _ allowed)
-room limits store _ given allowed small = tt
+pub room : (limits : Limits) (store : Store) (e : Event (List ℕ)) (given : Option Given) → allows_given limits store e given ≡ true → limits.bytes ≤ 134217728 → store.bytes ≤ limits.bytes → ReliesOn store e
+room limits store (event.Led session iri flight) (Some given) allowed small kept = cc
+room limits store (event.Led session iri flight) None allowed small kept = led limits store session iri flight small (at_number store.sessions session) allowed
+room limits store (event.Published flight version) None allowed small kept = cc
+room limits store (event.Published flight version) (Some given) allowed small kept = (publishes store version given (flight_at store.flights flight) allowed, omega (arith, small, kept))
+room limits store (event.Evicted session iri version) (Some given) allowed small kept = cc
+room limits store (event.Evicted session iri version) None allowed small kept = next store version (right _ _ allowed)
+room limits store (event.Opened session seat) (Some given) allowed small kept = cc
+room limits store (event.Opened session seat) None allowed small kept = let p = read_open limits store session seat allowed in (p.next, p.free)
+room limits store (event.Closed session) (Some given) allowed small kept = cc
+room limits store (event.Closed session) None allowed small kept = allowed
+room limits store _ given allowed small kept = tt

@@ -127,7 +127,7 @@ set_number_other es k v x is q n =
 pub changed_is : (sessions : Sessions) (n : ℕ) (g : Session → Session) (s : Session) → at_number sessions n ≡ Some s → changed sessions n g ≡ set_value (is_at (nat_cmp n)) sessions (g s)
 changed_is sessions n g s is = ap (change_found sessions n g) is
 
-same_session : (s t : Session) → Some s ≡ Some t → s ≡ t
+pub same_session : (s t : Session) → Some s ≡ Some t → s ≡ t
 same_session s t e = cc
 
 module _ (sessions : Sessions) (n : ℕ) (g : Session → Session) (s : Session) (is : at_number sessions n ≡ Some s) where

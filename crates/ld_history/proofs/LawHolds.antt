@@ -126,7 +126,7 @@ follows_on limits entries entry small legal ok =
     let room = room_kept limits (entries ++ entry ∷ []) small (legal_more limits empty_store entries (entry ∷ []) legal (ok, tt)) in
     record { allowed = ok; room = omega (arith, room, length-append entries (entry ∷ [])) }
 
-valued_place : {K X : Type 0} (p : X → Bool) (es : List (K × X)) → list_any p (values_of es) ≡ true → (i : ℕ) × (e : K × X) × (slice_get es i ≡ Some e) × (p e.1 ≡ true)
+pub valued_place : {K X : Type 0} (p : X → Bool) (es : List (K × X)) → list_any p (values_of es) ≡ true → (i : ℕ) × (e : K × X) × (slice_get es i ≡ Some e) × (p e.1 ≡ true)
 valued_place p [] h = cc
 valued_place p (e ∷ es) h = elim (cases_Bool (p e.1)) [
   | inl here ↦ (0, e, refl, here)
@@ -145,7 +145,7 @@ module _ (limits : Limits) (entries : Entries) (legal : Legal limits entries) (s
       (IsDistinct-from_sorted name_cmp (keys_of (pick (state entries).leads (state entries).revisions k)) (h.sorted k)) r.2 in
       nothing r.1.1.flight _ (h.listed k r.1.0 r.1.1 at, refl) (eqb-true r.1.1.session session r.3))
 
-  no_flight : has_flight (state entries) session ≡ false
+  pub no_flight : has_flight (state entries) session ≡ false
   no_flight = or_from _ _ (led_by_none kind.Lead) (led_by_none kind.Revise)
 
 pub answer_follows : (limits : Limits) (entries : Entries) (session : ℕ) (s : Session) → limits.held ≤ 64 → Legal limits entries → IsOpenAs (state entries) session s → has_request s ≡ true → LeadsNothing (state entries) session

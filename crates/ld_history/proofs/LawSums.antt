@@ -69,7 +69,7 @@ sum-most f p each [] = omega arith
 sum-most f p each (e ∷ es) = omega (arith, sum_by-cons f e es, sum_by-cons (λ x. cond (p x) 1 0) e.1 (values_of es), each e, sum-most f p each es)
 
 -- ---- entries whose marks are below a bound, no two alike, are no more than that bound
-place_of : {X : Type 0} (p : X → Bool) (xs : List X) → list_any p xs ≡ true → (i : ℕ) × (x : X) × (slice_get xs i ≡ Some x) × (p x ≡ true)
+pub place_of : {X : Type 0} (p : X → Bool) (xs : List X) → list_any p xs ≡ true → (i : ℕ) × (x : X) × (slice_get xs i ≡ Some x) × (p x ≡ true)
 place_of p [] h = cc
 place_of p (x ∷ xs) h = elim (cases_Bool (p x)) [
   | inl here ↦ (0, x, refl, here)

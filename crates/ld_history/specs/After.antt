@@ -1,5 +1,5 @@
 -- The state after one more entry. An entry that isn't allowed leaves a state of no meaning.
-use Rattle.std.specs.Prelude.{◌≡◌, ℕ, zero, suc, ◌+◌, ◌^◌, ◌<◌, ◌≤◌, ◌==◌, if◌then◌else◌, List, [], ◌∷◌, ◌++◌, length, Option, Some, None, is_some, slice_set}
+use Rattle.std.specs.Prelude.{◌≡◌, ℕ, zero, suc, ◌+◌, ◌^◌, ◌<◌, ◌≤◌, ◌==◌, if◌then◌else◌, List, [], ◌∷◌, ◌++◌, length, Option, Some, None, true, false, is_some, slice_set}
 use Rattle.std.specs.Ordering.{nat_cmp}
 use Rattle.std.specs.Map.{set_value, remove_entry}
 use Rattle.std.specs.BTreeMap.{is_at, insert_entry}
@@ -18,7 +18,8 @@ use Rattle.ld_history.specs.declared.session.End.{End}
 use Rattle.ld_history.specs.declared.session.End.TheVariants as end
 use Rattle.ld_history.specs.declared.session.Eviction.{Eviction}
 use Rattle.ld_history.specs.Store.{Store}
-use Rattle.ld_history.specs.Words.{at_number, at_iri, flight_at, is_lead, is_stored, places, is_next_out}
+use Rattle.ld_history.specs.Words.{at_number, at_iri, flight_at, is_lead, is_stored, places, is_taken, is_next_out}
+use Rattle.ld_history.specs.Rules.{may_close}
 
 -- with the value at its key, in place of a former one
 abbrev pub put_number : {X : Type 0} → List (ℕ × X) → ℕ → X → List (ℕ × X)
@@ -165,12 +166,16 @@ after_answered store session = record store { sessions = changed store.sessions 
 abbrev pub after_closed : Store → ℕ → Store
 after_closed store session = record store { sessions = take_number store.sessions session }
 
--- What a change relies on. A Led: no flight is under way for its IRI, and the bytes that it counts can
--- be told. What makes a version: it isn't before the current one.
+-- What a change relies on. An Opened: the number is the next, and the seat is free. A Led: no flight is
+-- under way for its IRI, and the bytes that it counts can be told. A Published: its version comes after the
+-- current one, and the bytes that it counts can be told. An Evicted: its version isn't before the current
+-- one. A Closed: the session is open and has no request under way.
 abbrev pub ReliesOn : Store → Event (List ℕ) → Type 0
+ReliesOn store (event.Opened session seat) = (session ≡ store.opened + 1) × (is_taken store seat ≡ false)
 ReliesOn store (event.Led session iri flight) = (at_iri store.leads iri ≡ None) × (store.bytes + length iri < 2 ^ 64)
-ReliesOn store (event.Published flight version) = store.version ≤ version
+ReliesOn store (event.Published flight version) = (store.version < version) × (store.bytes < 2 ^ 63)
 ReliesOn store (event.Evicted session iri version) = store.version ≤ version
+ReliesOn store (event.Closed session) = may_close store session ≡ true
 ReliesOn store _ = Unit {0}
 
 abbrev pub after_published_with : Store → ℕ → ℕ → Option Given → Store

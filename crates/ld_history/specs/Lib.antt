@@ -6,4 +6,11 @@ pub mod After
 pub mod Legal
 pub mod Seen
 pub mod Counts
+pub mod Holders
+pub mod Index
+pub mod Leading
+pub mod Order
 pub mod Laws
+pub mod Steps
+pub mod Choices
+pub mod Plans

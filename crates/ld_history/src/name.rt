@@ -2,9 +2,9 @@ ghost use Rattle.std.specs.Prelude.{◌≡◌, IfOk, Some, refl, nat_eq};
 ghost use Rattle.std.specs.Cmp.Lexicographic.{pointwise, slice_cmp, nat_list_eq_equiv, nat_list_cmp_total, texts_ties, texts_po};
 ghost use Rattle.std.specs.Cmp.{partial_equiv_from_equiv};
 ghost use Rattle.std.specs.Ordering.{nat_cmp};
+ghost use Rattle.ld_history.specs.Words.{same_given};
 
-use crate::event::Given;
-use ld_tree::{Iri, NoMemory};
+use ld_tree::{Iri, NoMemory, Raw};
 use std::alloc::Global;
 use std::cmp::Ordering;
 use std::marker::Model;
@@ -12,7 +12,7 @@ use std::sync::Arc;
 
 /// An IRI whose text is kept once, however many places name it. Contracts see its bytes.
 #[derive(Debug, Drop)]
-pub(crate) struct Name {
+pub struct Name {
     text: Arc<Iri>,
 }
 
@@ -87,7 +87,15 @@ impl Ord for Name {
 /// A flight's answer that is kept once. Contracts see the answer.
 #[derive(Debug, Drop)]
 pub(crate) struct Answer {
-    given: Arc<Given>,
+    kept: Arc<Kept>,
+}
+
+/// A flight's answer, whose url shares its text.
+#[derive(Debug, Drop)]
+pub(crate) struct Kept {
+    pub url: Name,
+    pub length: u32,
+    pub mark: Raw,
 }
 
 impl Model for Answer {
@@ -95,27 +103,48 @@ impl Model for Answer {
 
     ghost Value = { Given };
 
-    ghost view = { λ a. a.given.value };
+    ghost view = { λ a. record { url = a.kept.value.url; length = a.kept.value.length; mark = a.kept.value.mark } };
 }
 
 impl Answer {
-    pub fn new(alloc: Global, given: Given) -> Result<Answer, NoMemory>
-        ensures { IfOk result (λ answer. answer ≡ given) }
+    pub fn new(alloc: Global, url: Name, length: u32, mark: Raw) -> Result<Answer, NoMemory>
+        ensures { IfOk result (λ answer. answer ≡ record { url = url; length = length; mark = mark }) }
     {
-        let given = Arc::new(alloc, given)?;
-        Ok(Answer { given })
+        let kept = Arc::new(alloc, Kept { url, length, mark })?;
+        Ok(Answer { kept })
     }
 
     pub fn share(&self) -> Result<Answer, NoMemory>
         ensures { IfOk result (λ answer. answer ≡ self.now) }
     {
-        let given = Arc::try_clone(&self.given)?;
-        Ok(Answer { given })
+        let kept = Arc::try_clone(&self.kept)?;
+        Ok(Answer { kept })
     }
 
-    pub fn as_given(&self) -> &Given
-        ensures { result.now ≡ self.now }
+    pub fn url(&self) -> &Name
+        ensures { result.now ≡ self.now.url }
     {
-        &self.given
+        &self.kept.url
+    }
+
+    pub fn length(&self) -> u32
+        ensures { result ≡ self.now.length }
+    {
+        self.kept.length
+    }
+
+    pub fn mark(&self) -> &Raw
+        ensures { result.now ≡ self.now.mark }
+    {
+        &self.kept.mark
+    }
+
+    /// The same url, length and mark.
+    pub fn is_same(&self, other: &Answer) -> bool
+        ensures { result ≡ same_given self.now other.now }
+    {
+        *self.url() == *other.url()
+            && self.length() == other.length()
+            && *self.mark() == *other.mark()
     }
 }

@@ -1,19 +1,20 @@
 //! Which entry may come next: a function for each row of the rules, and the words they are made of.
-ghost use Rattle.std.specs.Prelude.{◌≡◌, true, option_copied};
-ghost use Rattle.ld_history.specs.Words.{at_number, at_iri, flight_at, is_idle, is_pinned, has_request, is_lead, is_under_way, is_published, is_published_as, is_failed, is_same, is_stored, is_led, is_revised, places, flights_under_way, requests_under_way, history_has_room, archive_has_room, holds, is_held, least_holder, may_go, none_before, is_next_out, was_stored, is_taken, is_led_by, has_flight, is_stored_answer};
+ghost use Rattle.std.specs.Prelude.{◌≡◌, true, ◌&&◌, option_copied};
+ghost use Rattle.std.specs.List.{list_any};
+ghost use Rattle.ld_history.specs.Words.{at_number, at_iri, flight_at, is_idle, is_pinned, has_request, is_lead, is_under_way, is_published, is_published_as, is_failed, is_same, is_stored, is_led, is_revised, places, flights_under_way, requests_under_way, history_has_room, archive_has_room, is_held, least_holder, may_go, is_next_out, was_stored, is_taken, has_flight, is_stored_answer};
 ghost use Rattle.ld_history.specs.Turns.{turns_until, is_rising};
 ghost use Rattle.ld_history.specs.Rules as rules;
+ghost use Rattle.ld_history.specs.Leading.{LeadersWait, leads_now};
 ghost use Rattle.ld_history.specs.Seen.{seen};
 
-use crate::event::{Entry, Event, Given, How};
+use crate::event::{Entry, Event, How};
 use crate::limits::Limits;
 use crate::name::{Answer, Name};
 use crate::session::{End, Flight, Flying, Kind, Last, Session};
 use crate::tables::Tables;
-use std::collections::BTreeMap;
 
 /// The greatest length of an IRI whose context is loaded, in bytes.
-const LONGEST_IRI: usize = 2048;
+pub(crate) const LONGEST_IRI: usize = 2048;
 
 /// The greatest length of an answer, which stands for an oversize one.
 pub(crate) const OVERSIZE: u32 = 1_048_577;
@@ -22,13 +23,13 @@ pub(crate) const OVERSIZE: u32 = 1_048_577;
 const LAST_FAULT: u64 = 0x7fff_ffff_ffff_ffff;
 
 impl Last {
-    fn is_idle(self) -> bool
+    pub fn is_idle(self) -> bool
         ensures { result ≡ is_idle self }
     {
         matches!(self, Last::Idle)
     }
 
-    fn is_pinned(self) -> bool
+    pub fn is_pinned(self) -> bool
         ensures { result ≡ is_pinned self }
     {
         matches!(self, Last::Pinned)
@@ -66,7 +67,7 @@ impl Kind {
 }
 
 impl End {
-    fn is_under_way(self) -> bool
+    pub fn is_under_way(self) -> bool
         ensures { result ≡ is_under_way self }
     {
         matches!(self, End::UnderWay)
@@ -101,21 +102,15 @@ impl End {
 }
 
 impl Session {
-    fn has_request(&self) -> bool
+    pub fn has_request(&self) -> bool
         ensures { result ≡ has_request self.now }
     {
         !self.last.is_idle()
     }
-
-    fn holds(&self, iri: &Name) -> bool
-        ensures { result ≡ holds self.now iri.now }
-    {
-        self.held.as_slice().contains(iri)
-    }
 }
 
 impl Tables {
-    fn session(&self, number: u32) -> Option<&Session>
+    pub fn session(&self, number: u32) -> Option<&Session>
         ensures { option_copied result ≡ at_number (seen self.now).sessions number }
     {
         self.sessions.get(&number)
@@ -130,7 +125,7 @@ impl Tables {
         }
     }
 
-    fn is_stored(&self, iri: &Name) -> bool
+    pub fn is_stored(&self, iri: &Name) -> bool
         ensures { result ≡ is_stored (seen self.now) iri.now }
     {
         self.stored.contains_key(iri)
@@ -154,27 +149,21 @@ impl Tables {
         self.stored.len() as u64 + self.leads.len() as u64
     }
 
-    fn requests_under_way(&self) -> usize
+    fn requests_under_way(&self) -> u32
         ensures { result ≡ requests_under_way (seen self.now) }
     {
-        let mut count = 0;
-        for session in self.sessions.values() {
-            if session.has_request() {
-                count += 1;
-            }
-        }
-        count
+        self.index.busy
     }
 
-    fn history_has_room(&self, limits: &Limits) -> bool
+    pub fn history_has_room(&self, limits: &Limits) -> bool
         ensures { result ≡ history_has_room limits.now (seen self.now) }
     {
         let events = self.events;
-        let requests = self.requests_under_way() as u128;
+        let requests = u128::from(self.requests_under_way());
         u128::from(events) + 320 * (requests + 1) + 256 <= u128::from(limits.events)
     }
 
-    fn archive_has_room(&self, limits: &Limits) -> bool
+    pub fn archive_has_room(&self, limits: &Limits) -> bool
         ensures { result ≡ archive_has_room limits.now (seen self.now) }
     {
         let bytes = self.bytes;
@@ -185,21 +174,19 @@ impl Tables {
     fn is_held(&self, iri: &Name) -> bool
         ensures { result ≡ is_held (seen self.now) iri.now }
     {
-        self.sessions.values().any(|s| s.holds(iri))
+        self.index.holders.contains_key(iri)
     }
 
-    fn least_holder(&self, iri: &Name) -> Option<u32>
+    pub fn least_holder(&self, iri: &Name) -> Option<u32>
         ensures { result ≡ least_holder (seen self.now) iri.now }
     {
-        for (number, session) in &self.sessions {
-            if session.holds(iri) {
-                return Some(*number);
-            }
+        match self.index.holders.get(iri) {
+            Some(set) => set.first().copied(),
+            None => None,
         }
-        None
     }
 
-    fn may_go(&self, iri: &Name) -> bool
+    pub fn may_go(&self, iri: &Name) -> bool
         ensures { result ≡ may_go (seen self.now) iri.now }
     {
         !self.is_held(iri) && !self.is_revised(iri)
@@ -208,19 +195,13 @@ impl Tables {
     pub fn is_next_out(&self, iri: &Name) -> bool
         ensures { result ≡ is_next_out (seen self.now) iri.now }
     {
-        match self.stored.get(iri) {
-            Some(out) => self.may_go(iri) && self.none_before(out.version),
+        match self.next_out() {
+            Some(out) => *out == *iri,
             None => false,
         }
     }
 
-    fn none_before(&self, version: u64) -> bool
-        ensures { result ≡ none_before (seen self.now) version }
-    {
-        self.stored.iter().all(|(iri, stored)| !self.may_go(iri) || version <= stored.version)
-    }
-
-    fn was_stored(&self, iri: &Name, version: u64) -> bool
+    pub fn was_stored(&self, iri: &Name, version: u64) -> bool
         ensures { result ≡ was_stored (seen self.now) iri.now version }
     {
         match self.turns.get(iri) {
@@ -230,16 +211,32 @@ impl Tables {
     }
 
     fn has_flight(&self, session: u32) -> bool
+        requires { LeadersWait (seen self.now) }
         ensures { result ≡ has_flight (seen self.now) session }
     {
-        is_led_by(&self.leads, session) || is_led_by(&self.revisions, session)
+        match self.session(session) {
+            Some(s) => self.leads_now(session, s.last),
+            None => false,
+        }
     }
 
-    fn is_stored_answer(&self, iri: &Name, given: &Given) -> bool
+    fn leads_now(&self, session: u32, last: Last) -> bool
+        ensures { result ≡ leads_now (seen self.now) session last }
+    {
+        match last {
+            Last::Led { flight } | Last::ReviseLed { flight } => match self.flight(flight) {
+                Some(f) => f.end.is_under_way() && f.session == session,
+                None => false,
+            },
+            _ => false,
+        }
+    }
+
+    pub fn is_stored_answer(&self, iri: &Name, given: &Answer) -> bool
         ensures { result ≡ is_stored_answer (seen self.now) iri.now given.now }
     {
         match self.stored.get(iri) {
-            Some(stored) => *stored.answer.as_given() == *given,
+            Some(stored) => stored.answer.is_same(given),
             None => false,
         }
     }
@@ -253,13 +250,13 @@ impl Tables {
             && self.history_has_room(limits)
     }
 
-    fn is_taken(&self, seat: u32) -> bool
+    pub fn is_taken(&self, seat: u32) -> bool
         ensures { result ≡ is_taken (seen self.now) seat }
     {
-        self.sessions.values().any(|s| s.seat == seat)
+        self.index.seats.contains_key(&seat)
     }
 
-    fn end_of(&self, flight: u32) -> Option<End>
+    pub fn end_of(&self, flight: u32) -> Option<End>
         ensures { result ≡ rules.end_of (seen self.now) flight }
     {
         match self.flight(flight) {
@@ -302,7 +299,7 @@ impl Tables {
             && self.may_pin_again(s.last)
     }
 
-    fn may_pin_again(&self, last: Last) -> bool
+    pub fn may_pin_again(&self, last: Last) -> bool
         ensures { result ≡ rules.may_pin_again (seen self.now) last }
     {
         match last {
@@ -397,13 +394,13 @@ impl Tables {
         u128::from(version) == u128::from(self.version) + 1
     }
 
-    pub fn may_publish(&self, flight: u32, version: u64, given: &Given) -> bool
+    pub fn may_publish(&self, flight: u32, version: u64, given: &Answer) -> bool
         ensures { result ≡ rules.may_publish (seen self.now) flight version given.now }
     {
         match self.flight(flight) {
             Some(f) => f.end.is_under_way()
                 && self.is_next_version(version)
-                && given.length <= OVERSIZE
+                && given.length() <= OVERSIZE
                 && (f.kind.is_lead() || !self.is_stored_answer(&f.iri, given)),
             None => false,
         }
@@ -461,7 +458,7 @@ impl Tables {
             && self.is_next(flight)
     }
 
-    pub fn may_be_same(&self, flight: u32, given: &Given) -> bool
+    pub fn may_be_same(&self, flight: u32, given: &Answer) -> bool
         ensures { result ≡ rules.may_be_same (seen self.now) flight given.now }
     {
         match self.flight(flight) {
@@ -490,7 +487,7 @@ impl Tables {
         }
     }
 
-    fn is_full(&self, limits: &Limits) -> bool
+    pub fn is_full(&self, limits: &Limits) -> bool
         ensures { result ≡ rules.is_full limits.now (seen self.now) }
     {
         self.places() == u64::from(limits.contexts) && self.none_may_go()
@@ -499,7 +496,7 @@ impl Tables {
     fn none_may_go(&self) -> bool
         ensures { result ≡ rules.none_may_go (seen self.now) }
     {
-        self.stored.keys().all(|iri| !self.may_go(iri))
+        self.next_out().is_none()
     }
 
     fn is_least_holder(&self, iri: &Name, session: u32) -> bool
@@ -511,9 +508,17 @@ impl Tables {
     fn holds_first(&self, session: u32) -> bool
         ensures { result ≡ rules.holds_first (seen self.now) session }
     {
-        self.stored
-            .keys()
-            .any(|iri| self.is_least_holder(iri, session))
+        match self.session(session) {
+            Some(s) => self.is_first_of(session, s.held.as_slice()),
+            None => false,
+        }
+    }
+
+    /// Whether one of the IRIs is stored, and this is the least session that holds it.
+    fn is_first_of(&self, session: u32, held: &[Name]) -> bool
+        ensures { result ≡ list_any (λ iri. is_stored (seen self.now) iri && rules.is_least_holder (seen self.now) session iri) held.now }
+    {
+        held.iter().any(|iri| self.is_stored(iri) && self.is_least_holder(iri, session))
     }
 
     fn revised_as(&self, version: u64, last: Last) -> bool
@@ -567,6 +572,7 @@ impl Tables {
     }
 
     pub fn may_answer(&self, limits: &Limits, session: u32, request: u32, how: &How<Name>) -> bool
+        requires { LeadersWait (seen self.now) }
         ensures { result ≡ rules.may_answer limits.now (seen self.now) session request how.now }
     {
         match self.session(session) {
@@ -586,12 +592,6 @@ impl Tables {
             None => false,
         }
     }
-}
-
-fn is_led_by(flights: &BTreeMap<Name, Flying>, session: u32) -> bool
-    ensures { result ≡ is_led_by flights.now.entries session }
-{
-    flights.values().any(|f| f.session == session)
 }
 
 /// How many turns came with the version or before it, by halves.
@@ -615,15 +615,16 @@ fn turns_until(turns: &[u64], version: u64) -> usize
 impl Tables {
     /// Whether the rules allow the entry after the history that made these tables.
     pub fn allows(&self, limits: &Limits, entry: &Entry<Name, Answer>) -> bool
+        requires { LeadersWait (seen self.now) }
         ensures { result ≡ rules.allows limits.now (seen self.now) entry.now }
     {
         match &entry.given {
-            Some(given) => self.allows_with(&entry.event, given.as_given()),
+            Some(given) => self.allows_with(&entry.event, given),
             None => self.allows_alone(limits, &entry.event),
         }
     }
 
-    fn allows_with(&self, event: &Event<Name>, given: &Given) -> bool
+    fn allows_with(&self, event: &Event<Name>, given: &Answer) -> bool
         ensures { result ≡ rules.allows_with (seen self.now) given.now event.now }
     {
         match event {
@@ -634,6 +635,7 @@ impl Tables {
     }
 
     fn allows_alone(&self, limits: &Limits, event: &Event<Name>) -> bool
+        requires { LeadersWait (seen self.now) }
         ensures { result ≡ rules.allows_alone limits.now (seen self.now) event.now }
     {
         match event {

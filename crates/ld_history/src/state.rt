@@ -16,9 +16,9 @@ use std::marker::Model;
 /// the limits and the list of entries.
 #[derive(Debug, Drop)]
 pub struct State {
-    limits: Limits,
-    history: Vec<Entry<Name, Answer>>,
-    tables: Tables,
+    pub(crate) limits: Limits,
+    pub(crate) history: Vec<Entry<Name, Answer>>,
+    pub(crate) tables: Tables,
 }
 
 impl Model for State {
@@ -59,8 +59,9 @@ impl State {
 }
 
 /// Appends the entry to the history exactly where the rules allow it there. Either refusal leaves the
-/// history as it was. Its time is logarithmic in what the tables hold, but for what looks at each open
-/// session or each stored context, of which there are at most 256.
+/// history as it was. Its time is logarithmic in what the tables hold, for each context that the session
+/// holds, of which there are at most 64; but where a context may go or may go no more, the versions after
+/// its own, at most one for each stored context, are moved by one place.
 pub fn step(alloc: Global, state: &mut State, entry: Entry) -> Result<(), StepRefusal>
     ensures allowed { OnOk result (allows state.old.limits (legal.state state.old.entries) entry ≡ true) }
     ensures appended { OnOk result (state.new ≡ record state.old { entries = state.old.entries ++ entry ∷ [] }) }
@@ -75,7 +76,12 @@ pub fn step(alloc: Global, state: &mut State, entry: Entry) -> Result<(), StepRe
     Ok(())
 }
 
-fn append(alloc: Global, state: &mut State, entry: Entry<Name, Answer>) -> Result<(), NoMemory>
+/// Appends an entry that the rules allow.
+pub(crate) fn append(
+    alloc: Global,
+    state: &mut State,
+    entry: Entry<Name, Answer>,
+) -> Result<(), NoMemory>
     requires { allows state.old.limits (legal.state state.old.entries) entry ≡ true }
     ensures appended { OnOk result (state.new ≡ record state.old { entries = state.old.entries ++ entry ∷ [] }) }
     ensures unchanged { OnErr result (state.new ≡ state.old) }

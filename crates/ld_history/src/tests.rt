@@ -1,5 +1,6 @@
 ghost use Rattle.ld_history.specs.Legal.{AreWithin};
 
+use crate::slow::Slow;
 use crate::{Entry, Event, Given, How, Limits, State, StepRefusal, step};
 use ld_tree::{Items, Text};
 use std::alloc::Global;
@@ -170,8 +171,18 @@ fn begin(rt: &impl Abort, alloc: Global, limits: Limits) -> State
     State::new(alloc, limits).expect(rt, "memory")
 }
 
+/// What the plain program says of the entry.
+fn plainly(state: &State, entry: &Entry) -> bool {
+    let slow = Slow {
+        limits: &state.limits,
+        entries: state.history.as_slice(),
+    };
+    slow.allows(entry)
+}
+
 /// The entry has to be allowed.
 fn may(rt: &impl Abort, alloc: Global, state: &mut State, entry: Entry) {
+    assert!(rt; plainly(state, &entry));
     let outcome = step(alloc, state, entry);
     assert_eq!(rt; outcome, Ok(()));
 }
@@ -179,6 +190,7 @@ fn may(rt: &impl Abort, alloc: Global, state: &mut State, entry: Entry) {
 /// The entry has to be refused, for want of what the words name.
 fn may_not(rt: &impl Abort, alloc: Global, state: &mut State, entry: Entry, why: &str) {
     let before = state.events();
+    assert!(rt; !plainly(state, &entry), "{why}");
     let outcome = step(alloc, state, entry);
     assert_eq!(rt; outcome, Err(StepRefusal::NotAllowed), "{why}");
     assert_eq!(rt; state.events(), before, "{why}");
