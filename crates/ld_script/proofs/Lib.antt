@@ -1,0 +1,5 @@
+pub mod Words
+pub mod Arguments
+pub mod Lines
+pub mod Apart
+pub mod Scripts
