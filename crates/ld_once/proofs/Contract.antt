@@ -1,42 +1,61 @@
 -- What each status says of a run, from how the run ended.
-use Rattle.std.proofs.Common.{◌≡◌, ◌⊎◌, inl, inr, ℕ, List, refl, sym, subst, arith}
-use Rattle.std.specs.Prelude.{Option, Some}
+use Rattle.std.proofs.Common.{◌≡◌, ◌∙◌, ◌⊎◌, inl, inr, ℕ, List, [], ◌∷◌, refl, sym, subst, arith}
+use Rattle.std.specs.Prelude.{Option, Some, codes}
 use Rattle.std.specs.Io.KnownBytes.{append_known}
 use Rattle.ld_edge.specs.Faults.{Rose}
 use Rattle.ld_edge.specs.declared.status.Status.{Status}
 use Rattle.ld_edge.specs.declared.status.Status.TheVariants.{Done, Refused, Usage, NoMemory, InputTooLong}
 use Rattle.ld_tree.specs.declared.tree.Tree.{Tree}
-use Rattle.ld_once.specs.Runs.{IsNoJson, IsNotBuilt, HasPlain, Due, AreTold, IsLeftAfter, IsWrittenFor, IsFaultFor, IsUnlessFailed, Ended, written, write_failed, read_failed, no_memory}
+use Rattle.ld_script.proofs.Scripts.{not_bad}
+use Rattle.ld_once.specs.declared.command.Command.{Command}
+use Rattle.ld_once.specs.declared.command.Command.TheVariants.{Expand, Schedule}
+use Rattle.ld_once.specs.Runs.{IsFormOf, IsNoJson, IsNotBuilt, HasPlain, IsResult, IsWhyNot, Due, AreTold, IsLeftAfter, IsWrittenFor, IsFaultFor, IsUnlessFailed, Ended, written, write_failed, read_failed, no_memory}
 
-module _ (words : List (List ℕ)) (bytes out out' : List ℕ) where
+words_differ : codes "expand" ∷ [] ≡ codes "schedule" ∷ [] → ⊥
+words_differ e = cc
+
+-- the words are one command's
+same_command : (words : List (List ℕ)) (a b : Command) → IsFormOf words a → IsFormOf words b → a ≡ b
+same_command words Expand Expand h k = refl
+same_command words Expand Schedule h k = absurd (words_differ (sym h ∙ k))
+same_command words Schedule Expand h k = absurd (words_differ (sym k ∙ h))
+same_command words Schedule Schedule h k = refl
+
+module _ (bytes out out' : List ℕ) where
   not_refused : (document : Tree) → HasPlain bytes document → (is is' : Type 0) → (IsNoJson bytes × is) ⊎ (IsNotBuilt bytes × is') → ⊥
   not_refused document has is is' (inl none) = none.0 has.0 has.1
   not_refused document has is is' (inr other) = other.0.1 document has
 
+  -- an input that a command makes something of isn't refused
+  not_both : (command : Command) → IsResult command bytes out → IsWhyNot command bytes out' → ⊥
+  not_both Expand h k = not_refused h.0 h.1 _ _ k
+  not_both Schedule h k = not_bad h.script k.1
+
+module _ (words : List (List ℕ)) (bytes out out' : List ℕ) where
   once_done : (s : Status) → Due words bytes Done out → Due words bytes s out' → s ≡ Done
   once_done Done h k = refl
-  once_done Refused h k = absurd (not_refused h.2.0 h.2.1 _ _ k.2)
-  once_done Usage h k = absurd (k.0 h.0)
-  once_done InputTooLong h k = absurd (omega (arith, h.1, k.1))
+  once_done Refused h k = absurd (not_both bytes out out' h.0 h.3 (subst (λ c. IsWhyNot c bytes out') (same_command words k.0 h.0 k.1 h.1) k.3))
+  once_done Usage h k = absurd (k.0 (h.0, h.1))
+  once_done InputTooLong h k = absurd (omega (arith, h.2, k.1))
   once_done _ h k = absurd k
 
   once_refused : (s : Status) → Due words bytes Refused out → Due words bytes s out' → s ≡ Refused
-  once_refused Done h k = absurd (not_refused k.2.0 k.2.1 _ _ h.2)
+  once_refused Done h k = absurd (not_both bytes out' out k.0 k.3 (subst (λ c. IsWhyNot c bytes out) (same_command words h.0 k.0 h.1 k.1) h.3))
   once_refused Refused h k = refl
-  once_refused Usage h k = absurd (k.0 h.0)
-  once_refused InputTooLong h k = absurd (omega (arith, h.1, k.1))
+  once_refused Usage h k = absurd (k.0 (h.0, h.1))
+  once_refused InputTooLong h k = absurd (omega (arith, h.2, k.1))
   once_refused _ h k = absurd k
 
   once_usage : (s : Status) → Due words bytes Usage out → Due words bytes s out' → s ≡ Usage
-  once_usage Done h k = absurd (h.0 k.0)
-  once_usage Refused h k = absurd (h.0 k.0)
+  once_usage Done h k = absurd (h.0 (k.0, k.1))
+  once_usage Refused h k = absurd (h.0 (k.0, k.1))
   once_usage Usage h k = refl
   once_usage InputTooLong h k = absurd (h.0 k.0)
   once_usage _ h k = absurd k
 
   once_too_long : (s : Status) → Due words bytes InputTooLong out → Due words bytes s out' → s ≡ InputTooLong
-  once_too_long Done h k = absurd (omega (arith, h.1, k.1))
-  once_too_long Refused h k = absurd (omega (arith, h.1, k.1))
+  once_too_long Done h k = absurd (omega (arith, h.1, k.2))
+  once_too_long Refused h k = absurd (omega (arith, h.1, k.2))
   once_too_long Usage h k = absurd (k.0 h.0)
   once_too_long InputTooLong h k = refl
   once_too_long _ h k = absurd k

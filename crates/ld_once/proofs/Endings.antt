@@ -5,7 +5,8 @@ use Rattle.std.specs.Io.KnownBytes.{append_known, prepend_known}
 use Rattle.ld_edge.specs.Faults.{Rose}
 use Rattle.ld_edge.specs.declared.status.Status.{Status}
 use Rattle.ld_edge.specs.declared.status.Status.TheVariants.{Done, Refused, WriteFault, InputTooLong}
-use Rattle.ld_once.specs.Runs.{input_limit, input_too_long, IsForm, IsReply, Due, AreTold, IsReadToEnd, IsLeftAfter, Ended, written, write_failed}
+use Rattle.ld_once.specs.declared.command.Command.{Command}
+use Rattle.ld_once.specs.Runs.{input_limit, input_too_long, IsForm, IsFormOf, IsReply, Due, AreTold, IsReadToEnd, IsLeftAfter, Ended, written, write_failed}
 
 -- the bytes that are told, or none
 abbrev pub told_bytes : Option (List ℕ) → List ℕ
@@ -26,13 +27,13 @@ pub AreTold-whole : (left left' : Option (List ℕ)) (bytes : List ℕ) → left
 AreTold-whole left (Some rest) bytes e none = subst (λ l. AreTold l bytes) (sym e) (ap (λ r. bytes ++ r) none ∙ append-nil bytes)
 AreTold-whole left None bytes e none = subst (λ l. AreTold l bytes) (sym e) tt
 
-module _ (words : List (List ℕ)) (bytes out : List ℕ) where
-  pub Due-reply : (status : Status) → IsForm words → length bytes ≤ input_limit → IsReply bytes status out → Due words bytes status out
-  Due-reply Done form short reply = (form, short, reply)
-  Due-reply Refused form short reply = (form, short, reply)
+module _ (command : Command) (words : List (List ℕ)) (bytes out : List ℕ) where
+  pub Due-reply : (status : Status) → IsFormOf words command → length bytes ≤ input_limit → IsReply command bytes status out → Due words bytes status out
+  Due-reply Done form short reply = (command, form, short, reply)
+  Due-reply Refused form short reply = (command, form, short, reply)
   Due-reply _ form short reply = absurd reply
 
-  pub IsLeftAfter-reply : (status : Status) (left left' : Option (List ℕ)) → IsReply bytes status out → IsReadToEnd left' → IsLeftAfter status left left'
+  pub IsLeftAfter-reply : (status : Status) (left left' : Option (List ℕ)) → IsReply command bytes status out → IsReadToEnd left' → IsLeftAfter status left left'
   IsLeftAfter-reply Done left left' reply end = end
   IsLeftAfter-reply Refused left left' reply end = end
   IsLeftAfter-reply _ left left' reply end = absurd reply

@@ -8,6 +8,7 @@ use Rattle.ld_tree.specs.declared.tree.Tree.{Tree, out-Tree}
 use Rattle.ld_tree.specs.declared.tree.Tree.TheOpen.{Tree-F}
 use Rattle.ld_expand.specs.Plain.{is_plain}
 use Rattle.ld_tree.proofs.Once.{read_once}
+use Rattle.ld_once.specs.declared.command.Command.TheVariants.{Expand}
 use Rattle.ld_once.specs.Runs.{IsEnvelope, IsEnvelopeAt, HasPlain, IsReply, not_json, not_built}
 use Rattle.ld_once.specs.Replies.{IsRefusal, IsAnswer}
 
@@ -31,17 +32,17 @@ module _ (bytes : List ℕ) (tree : Tree) (reading : reads bytes tree) where
       let one : other ≡ document = envelope_at_once (out-Tree tree) other document (subst (λ t. IsEnvelope t other) same has.2) envelope in
       subst (λ d. is_plain d ≡ true) one has.3
 
-  pub IsReply-answer : (document : Tree) → IsEnvelope tree document → (status : Status) (out : List ℕ) → IsAnswer document status out → IsReply bytes status out
+  pub IsReply-answer : (document : Tree) → IsEnvelope tree document → (status : Status) (out : List ℕ) → IsAnswer document status out → IsReply Expand bytes status out
   IsReply-answer document envelope Done out h = (document, (tree, reading, envelope, h.0), h.1)
   IsReply-answer document envelope Refused out h =
       inr (((tree, reading), λ other has. true≢false (sym (has_plain document other envelope has) ∙ h.0)), h.1)
   IsReply-answer document envelope _ out h = absurd h
 
-  pub IsReply-no_envelope : ((document : Tree) → IsEnvelope tree document → ⊥) → (status : Status) (out : List ℕ) → IsRefusal not_built status out → IsReply bytes status out
+  pub IsReply-no_envelope : ((document : Tree) → IsEnvelope tree document → ⊥) → (status : Status) (out : List ℕ) → IsRefusal not_built status out → IsReply Expand bytes status out
   IsReply-no_envelope none status out h =
       let without : (document : Tree) → HasPlain bytes document → ⊥ = λ document has.
       none document (subst (λ t. IsEnvelope t document) (read_once bytes has.0 tree has.1 reading) has.2) in
-      subst (λ s. IsReply bytes s out) (sym h.0) (inr (((tree, reading), without), h.1))
+      subst (λ s. IsReply Expand bytes s out) (sym h.0) (inr (((tree, reading), without), h.1))
 
-pub IsReply-no_json : (bytes : List ℕ) → ((tree : Tree) → reads bytes tree → ⊥) → (status : Status) (out : List ℕ) → IsRefusal not_json status out → IsReply bytes status out
-IsReply-no_json bytes none status out h = subst (λ s. IsReply bytes s out) (sym h.0) (inl (none, h.1))
+pub IsReply-no_json : (bytes : List ℕ) → ((tree : Tree) → reads bytes tree → ⊥) → (status : Status) (out : List ℕ) → IsRefusal not_json status out → IsReply Expand bytes status out
+IsReply-no_json bytes none status out h = subst (λ s. IsReply Expand bytes s out) (sym h.0) (inl (none, h.1))

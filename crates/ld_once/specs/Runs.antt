@@ -1,5 +1,5 @@
 -- What a run of the program owes.
-use Rattle.std.specs.Prelude.{◌≡◌, ⊤, ℕ, ◌<◌, ◌≤◌, ◌⊎◌, true, IfSome, Option, List, [], ◌∷◌, ◌++◌, length, take, codes}
+use Rattle.std.specs.Prelude.{◌≡◌, ⊤, ℕ, ◌<◌, ◌≤◌, ◌⊎◌, true, IfSome, Option, List, [], ◌∷◌, ◌++◌, length, take, codes, decimal}
 use Rattle.std.specs.Io.KnownBytes.{append_known}
 use Rattle.ld_edge.specs.Faults.{Rose}
 use Rattle.ld_edge.specs.declared.status.Status.{Status}
@@ -10,14 +10,27 @@ use Rattle.ld_tree.specs.declared.tree.Tree.TheOpen.{Tree-F}
 use Rattle.ld_tree.specs.Reading.{reads}
 use Rattle.ld_expand.specs.Plain.{is_plain}
 use Rattle.ld_expand.specs.Expansion.{expanded}
+use Rattle.ld_script.specs.Scripts.{IsBadAt}
+use Rattle.ld_script.specs.Printed.{IsOutput}
+use Rattle.ld_once.specs.declared.command.Command.{Command}
+use Rattle.ld_once.specs.declared.command.Command.TheVariants.{Expand, Schedule}
 
 -- the greatest length of an input, in bytes
 abbrev pub input_limit : ℕ
 input_limit = 4194304
 
+-- the word of each command
+abbrev pub word_of : Command → List ℕ
+word_of Expand = codes "expand"
+word_of Schedule = codes "schedule"
+
+-- the words are this command's: its word, alone
+abbrev pub IsFormOf : List (List ℕ) → Command → Type 0
+IsFormOf words command = words ≡ word_of command ∷ []
+
 -- the words that the program knows
 abbrev pub IsForm : List (List ℕ) → Type 0
-IsForm words = words ≡ codes "expand" ∷ []
+IsForm words = (command : Command) × IsFormOf words command
 
 -- a text, and a line feed
 abbrev pub line : List ℕ → List ℕ
@@ -34,6 +47,10 @@ not_json = line (codes "{\"own\":\"not json\"}")
 
 abbrev pub not_built : List ℕ
 not_built = line (codes "{\"own\":\"not built\"}")
+
+-- the line of this number is none of a script
+abbrev pub bad_line : ℕ → List ℕ
+bad_line number = line (codes "{\"line\":" ++ decimal number ++ codes ",\"own\":\"script\"}")
 
 -- an envelope is a map whose one name is `document`
 abbrev pub IsEnvelopeAt : Tree-F Tree → Tree → Type 0
@@ -55,16 +72,26 @@ IsNoJson bytes = (tree : Tree) → reads bytes tree → ⊥
 abbrev pub IsNotBuilt : List ℕ → Type 0
 IsNotBuilt bytes = ((tree : Tree) × reads bytes tree) × ((document : Tree) → HasPlain bytes document → ⊥)
 
+-- what a command makes of an input: an envelope is expanded, and a script is run
+abbrev pub IsResult : Command → List ℕ → List ℕ → Type 0
+IsResult Expand bytes out = (document : Tree) × HasPlain bytes document × (out ≡ line (text (expanded document)))
+IsResult Schedule bytes out = IsOutput bytes out
+
+-- why it makes nothing of it
+abbrev pub IsWhyNot : Command → List ℕ → List ℕ → Type 0
+IsWhyNot Expand bytes out = (IsNoJson bytes × (out ≡ not_json)) ⊎ (IsNotBuilt bytes × (out ≡ not_built))
+IsWhyNot Schedule bytes out = (number : ℕ) × IsBadAt bytes number × (out ≡ bad_line number)
+
 -- what a whole input within the limit is answered: each status, when it is due, and the text that goes with it
-abbrev pub IsReply : List ℕ → Status → List ℕ → Type 0
-IsReply bytes Done out = (document : Tree) × HasPlain bytes document × (out ≡ line (text (expanded document)))
-IsReply bytes Refused out = (IsNoJson bytes × (out ≡ not_json)) ⊎ (IsNotBuilt bytes × (out ≡ not_built))
-IsReply bytes _ out = ⊥
+abbrev pub IsReply : Command → List ℕ → Status → List ℕ → Type 0
+IsReply command bytes Done out = IsResult command bytes out
+IsReply command bytes Refused out = IsWhyNot command bytes out
+IsReply command bytes _ out = ⊥
 
 -- what is due for these words and this whole input
 abbrev pub Due : List (List ℕ) → List ℕ → Status → List ℕ → Type 0
-Due words bytes Done out = IsForm words × (length bytes ≤ input_limit) × IsReply bytes Done out
-Due words bytes Refused out = IsForm words × (length bytes ≤ input_limit) × IsReply bytes Refused out
+Due words bytes Done out = (command : Command) × IsFormOf words command × (length bytes ≤ input_limit) × IsReply command bytes Done out
+Due words bytes Refused out = (command : Command) × IsFormOf words command × (length bytes ≤ input_limit) × IsReply command bytes Refused out
 Due words bytes Usage out = (IsForm words → ⊥) × (out ≡ usage)
 Due words bytes InputTooLong out = IsForm words × (input_limit < length bytes) × (out ≡ input_too_long)
 Due words bytes _ out = ⊥

@@ -1,6 +1,7 @@
 //! The program: one run of what the words ask for, from the bytes read to the bytes written.
 #![tactic(auto)]
 
+mod command;
 mod input;
 mod output;
 mod print;

@@ -62,7 +62,8 @@ fn print_members(entries: &Entries<Tree>, out: &mut Vec<u8>) -> Result<(), NoMem
     Ok(())
 }
 
-fn print_bytes(bytes: &[u8], out: &mut Vec<u8>) -> Result<(), NoMemory>
+/// Appends the bytes as they are.
+pub fn print_bytes(bytes: &[u8], out: &mut Vec<u8>) -> Result<(), NoMemory>
     ensures { OnOk result (out.new.items ≡ out.old.items ++ bytes.now) }
 {
     out.extend_from_slice(bytes)?;

@@ -1,12 +1,16 @@
 ghost use Rattle.std.specs.Prelude.{◌≡◌, ◌++◌, MatchOption, IfOk, option_copied};
 ghost use Rattle.ld_edge.specs.declared.status.Status.TheVariants as status;
 ghost use Rattle.ld_tree.specs.declared.tree.Tree.{Tree};
-ghost use Rattle.ld_once.specs.Runs.{IsEnvelope, IsReply};
+ghost use Rattle.ld_once.specs.declared.command.Command.TheVariants as commands;
+ghost use Rattle.ld_once.specs.Runs.{IsEnvelope, IsReply, bad_line};
 ghost use Rattle.ld_once.specs.Replies.{IsRefusal, IsAnswer};
 
-use crate::print::print_tree;
+use crate::command::Command;
+use crate::print::{print_bytes, print_tree};
+use itoa::Buffer;
 use ld_edge::Status;
 use ld_expand::{Stop, expand};
+use ld_script::{ScriptRefusal, run_script};
 use ld_tree::{NoMemory, Tree};
 use ld_tree_read::{ReadRefusal, read_tree};
 use std::alloc::Global;
@@ -22,9 +26,47 @@ const NOT_JSON: &[u8] = b"{\"own\":\"not json\"}\n";
 
 const NOT_BUILT: &[u8] = b"{\"own\":\"not built\"}\n";
 
-/// Answers a whole input: its document expanded, or why it isn't.
-pub fn reply_to(alloc: Global, bytes: &[u8]) -> Result<Reply, NoMemory>
-    ensures { IfOk result (λ r. IsReply bytes.now r.status r.text.items) }
+/// Answers a whole input, as the command does.
+pub fn reply_to(alloc: Global, command: Command, bytes: &[u8]) -> Result<Reply, NoMemory>
+    ensures { IfOk result (λ r. IsReply command bytes.now r.status r.text.items) }
+{
+    match command {
+        Command::Expand => reply_to_envelope(alloc, bytes),
+        Command::Schedule => reply_to_script(alloc, bytes),
+    }
+}
+
+// What the script prints, or its first bad line.
+fn reply_to_script(alloc: Global, bytes: &[u8]) -> Result<Reply, NoMemory>
+    ensures { IfOk result (λ r. IsReply commands.Schedule bytes.now r.status r.text.items) }
+{
+    match run_script(alloc, bytes) {
+        Ok(text) => Ok(Reply {
+            status: Status::Done,
+            text,
+        }),
+        Err(ScriptRefusal::BadLine { line }) => refuse_line(alloc, line),
+        Err(ScriptRefusal::NoMemory) => Err(NoMemory),
+    }
+}
+
+fn refuse_line(alloc: Global, number: u64) -> Result<Reply, NoMemory>
+    ensures { IfOk result (λ r. IsRefusal (bad_line number) r.status r.text.items) }
+{
+    let mut text = Vec::new(alloc);
+    print_bytes(b"{\"line\":", &mut text)?;
+    print_bytes(Buffer::new().format(number).as_bytes(), &mut text)?;
+    print_bytes(b",\"own\":\"script\"}", &mut text)?;
+    text.push(b'\n')?;
+    Ok(Reply {
+        status: Status::Refused,
+        text,
+    })
+}
+
+// The document of an envelope expanded, or why it isn't.
+fn reply_to_envelope(alloc: Global, bytes: &[u8]) -> Result<Reply, NoMemory>
+    ensures { IfOk result (λ r. IsReply commands.Expand bytes.now r.status r.text.items) }
 {
     match read_tree(alloc, bytes) {
         Ok(tree) => match document_of(&tree) {

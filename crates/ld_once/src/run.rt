@@ -1,10 +1,11 @@
-ghost use Rattle.std.specs.Prelude.{◌≡◌, ◌⊎◌, ◌↔◌, ℕ, List, IsTrue, map, take, string_bytes};
+ghost use Rattle.std.specs.Prelude.{◌≡◌, ◌⊎◌, ℕ, List, map, take, string_bytes};
 ghost use Rattle.std.specs.Io.KnownBytes.{append_known};
 ghost use Rattle.ld_edge.specs.Faults.{Rose};
 ghost use Rattle.ld_edge.specs.declared.status.Status.{Status};
 ghost use Rattle.ld_edge.specs.declared.status.Status.TheVariants as ended;
-ghost use Rattle.ld_once.specs.Runs.{IsForm, Due, Ended, IsLeftAfter, IsWrittenFor, IsFaultFor, IsUnlessFailed};
+ghost use Rattle.ld_once.specs.Runs.{Due, Ended, IsLeftAfter, IsWrittenFor, IsFaultFor, IsUnlessFailed};
 
+use crate::command::Command;
 use crate::input::{Input, InputRefusal, read_input};
 use crate::output::write_whole;
 use crate::reply::reply_to;
@@ -18,7 +19,8 @@ const INPUT_TOO_LONG: &[u8] = b"{\"own\":\"input too long\"}\n";
 
 /// Runs what the words ask for: reads the input, and writes one answer.
 ///
-/// The words are `expand` alone. The input is one envelope, read to its end, of at most 4,194,304 bytes.
+/// The words are `expand` or `schedule`, alone. The input is one envelope or one script, read to its end, of
+/// at most 4,194,304 bytes.
 pub fn run_once<S: Source, K: Sink>(
     alloc: Global,
     words: &[String],
@@ -48,26 +50,17 @@ fn run<S: Source, K: Sink>(alloc: Global, words: &[String], input: &mut S, outpu
     ensures { Ended (map string_bytes words.now) (S.left input.old) (S.left input.new) (S.fault_count input.old) (S.fault_count input.new)
         (K.held output.old) (K.held output.new) (K.fault_count output.old) (K.fault_count output.new) result }
 {
-    if !is_form(words) {
+    let Some(command) = Command::from_words(words) else {
         return finish(output, Status::Usage, USAGE);
-    }
+    };
     match read_input(alloc, input) {
-        Ok(Input::Whole(bytes)) => match reply_to(alloc, bytes.as_slice()) {
+        Ok(Input::Whole(bytes)) => match reply_to(alloc, command, bytes.as_slice()) {
             Ok(reply) => finish(output, reply.status, reply.text.as_slice()),
             Err(_) => Status::NoMemory,
         },
         Ok(Input::TooLong) => finish(output, Status::InputTooLong, INPUT_TOO_LONG),
         Err(InputRefusal::Failed) => Status::ReadFault,
         Err(InputRefusal::NoMemory) => Status::NoMemory,
-    }
-}
-
-fn is_form(words: &[String]) -> bool
-    ensures { IsTrue result ↔ IsForm (map string_bytes words.now) }
-{
-    match words {
-        [word] => word.as_str() == "expand",
-        _ => false,
     }
 }
 

@@ -74,6 +74,35 @@ fn answers_inputs(rt: HostRuntime) -> Result<(), Fail> {
 }
 
 #[test]
+fn runs_scripts(rt: HostRuntime) -> Result<(), Fail> {
+    let cases = [
+        ("", Status::Done, "version 0 events 0\n"),
+        (
+            "open 0\npin 1\nlack 1 x\ngive 1 10 m\npin 1\nanswer 1\nopen 0\nclose 1\n",
+            Status::Done,
+            "opened 1\npinned 1 1 1 0\nled 1 1\npublished 1 1\npinned 1 1 2 1\nanswered 1 1\nnot allowed\nclosed 1\nversion 1 events 7\n",
+        ),
+        (
+            "open 0\npin  1\n",
+            Status::Refused,
+            "{\"line\":2,\"own\":\"script\"}\n",
+        ),
+        (
+            "{\"document\":{}}",
+            Status::Refused,
+            "{\"line\":1,\"own\":\"script\"}\n",
+        ),
+    ];
+    for (input, status, output) in cases {
+        let bytes = input.as_bytes().to_vec(rt.alloc())?;
+        let seen = run(rt.alloc(), &["schedule"], bytes, 7, &[], &[])?;
+        assert_eq!(rt; seen.0, status, "{input}");
+        assert_eq!(rt; seen.1.bytes(), output.as_bytes(), "{input}");
+    }
+    Ok(())
+}
+
+#[test]
 fn each_read_and_write_may_fail(rt: HostRuntime) -> Result<(), Fail> {
     let alloc = rt.alloc();
     let input = b"{\"document\":[1]} ";
@@ -99,7 +128,13 @@ fn each_read_and_write_may_fail(rt: HostRuntime) -> Result<(), Fail> {
 #[test]
 fn words_and_lengths_have_limits(rt: HostRuntime) -> Result<(), Fail> {
     let alloc = rt.alloc();
-    let forms: [&[&str]; 4] = [&[], &["expand", "x"], &["Expand"], &["compact"]];
+    let forms: [&[&str]; 5] = [
+        &[],
+        &["expand", "x"],
+        &["Expand"],
+        &["compact"],
+        &["schedule", "expand"],
+    ];
     for form in forms {
         let seen = run(alloc, form, Vec::new(alloc), 64, &[1], &[])?;
         assert_eq!(rt; seen.0, Status::Usage);
@@ -111,7 +146,7 @@ fn words_and_lengths_have_limits(rt: HostRuntime) -> Result<(), Fail> {
     assert_eq!(rt; seen.0, Status::Done);
     assert_eq!(rt; seen.1.bytes(), ANN_EXPANDED.as_bytes());
     let too_long = vec![in alloc; b' '; 4_194_305]?;
-    let seen = run(alloc, &["expand"], too_long, 1_000_000, &[], &[])?;
+    let seen = run(alloc, &["schedule"], too_long, 1_000_000, &[], &[])?;
     assert_eq!(rt; seen.0, Status::InputTooLong);
     assert_eq!(rt;
         seen.1.bytes(),

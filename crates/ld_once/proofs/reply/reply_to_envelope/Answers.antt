@@ -1,7 +1,7 @@
 use Rattle.std.proofs.Common.{ap}
 use Rattle.std.specs.Prelude.{Err}
 use Rattle.ld_once.proofs.Replied.{IfOk-map, IsReply-answer, IsReply-no_envelope, IsReply-no_json}
-use Rattle.ld_once.proofs.reply.reply_to.Goals as goal
+use Rattle.ld_once.proofs.reply.reply_to_envelope.Goals as goal
 
 pub returns-in-Some : goal.returns-in-Some
 returns-in-Some c =
