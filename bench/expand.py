@@ -5,16 +5,15 @@ What counts are the ratios: of one size to half of it (near 2), and of two progr
 the processor, so that other work on the machine tells little.
 """
 
-import os
 import pathlib
 import subprocess
 import sys
 import tempfile
 
 from documents import KINDS, SIZES, envelope
+from times import best
 
 TOP = pathlib.Path(__file__).resolve().parent.parent
-RUNS = 5
 PYLD = """
 import json, sys
 from pyld import jsonld
@@ -25,19 +24,6 @@ PYTHON_JSON = """
 import json, sys
 json.dumps(json.load(open(sys.argv[1])), separators=(",", ":"))
 """
-
-
-def best(command, stdin="/dev/null", runs=RUNS):
-    """The least time of the processor over some runs, in seconds."""
-    times = []
-    for _ in range(runs):
-        with open(stdin, "rb") as source:
-            child = subprocess.Popen(command, stdin=source, stdout=subprocess.DEVNULL)
-        _, status, used = os.wait4(child.pid, 0)
-        if status != 0:
-            raise SystemExit(f"{command[0]} ended with wait status {status}")
-        times.append(used.ru_utime + used.ru_stime)
-    return min(times)
 
 
 def has_pyld(python):
