@@ -1,6 +1,6 @@
 """The context store's history, as plainly as can be: what each line of a script prints, by docs/store.md.
 
-Written from that page alone, for bench/compare.py. It remembers little and searches lists.
+For bench/compare.py, and written apart from the program. It remembers little and searches lists.
 """
 
 SERVER = (256, 64, 16_777_216, 134_217_728)
