@@ -1,5 +1,6 @@
 -- The keywords: JSON-LD 1.1, "Syntax Tokens and Keywords".
-use Rattle.std.specs.Prelude.{ℕ, List, codes}
+use Rattle.std.specs.Prelude.{ℕ, Bool, List, [], ◌∷◌, codes, bytes_eq}
+use Rattle.std.specs.List.{list_any}
 use Rattle.ld_codes.specs.declared.keyword.Keyword.{Keyword}
 use Rattle.ld_codes.specs.declared.keyword.Keyword.TheVariants as k
 
@@ -27,3 +28,13 @@ keyword_text k.Typed = codes "@type"
 keyword_text k.Value = codes "@value"
 keyword_text k.Version = codes "@version"
 keyword_text k.Vocab = codes "@vocab"
+
+-- each of them, once
+abbrev pub keywords : List Keyword
+keywords = k.Base ∷ k.Container ∷ k.Context ∷ k.Direction ∷ k.Graph ∷ k.Id ∷ k.Import ∷ k.Included
+    ∷ k.Index ∷ k.Json ∷ k.Language ∷ k.List ∷ k.Nest ∷ k.None ∷ k.Prefix ∷ k.Propagate
+    ∷ k.Protected ∷ k.Reverse ∷ k.Set ∷ k.Typed ∷ k.Value ∷ k.Version ∷ k.Vocab ∷ []
+
+-- the text is that of a keyword
+unfoldable pub is_keyword : List ℕ → Bool
+is_keyword text = list_any (λ keyword. bytes_eq text (keyword_text keyword)) keywords

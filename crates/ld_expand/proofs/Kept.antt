@@ -14,7 +14,9 @@ use Rattle.ld_tree.specs.declared.tree.Tree.TheOpen.{Tree-F}
 use Rattle.ld_tree.specs.declared.tree.Tree.TheViews.{roll-Tree, the_lemmas}
 use Rattle.ld_expand.specs.declared.words.Meaning.{Meaning}
 use Rattle.ld_expand.specs.declared.words.Meaning.TheVariants.{IdKeyword, TypeKeyword, ValueKeyword, OtherKeyword, Property, Unmapped}
-use Rattle.ld_expand.specs.Words.{is_keyword_form, is_keyword, iri_of, meaning_of, has_colon}
+use Rattle.ld_codes.specs.Keywords.{is_keyword}
+use Rattle.ld_iri.specs.Words.{is_keyword_form}
+use Rattle.ld_expand.specs.Words.{iri_of, meaning_of, has_colon}
 use Rattle.ld_expand.specs.Kinds.{is_iri_text}
 use Rattle.ld_expand.specs.Making.{map_of}
 use Rattle.ld_expand.specs.Plain.{is_plain, is_plain_under, is_plain_entry}

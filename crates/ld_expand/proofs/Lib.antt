@@ -3,3 +3,4 @@ pub mod Levels
 pub mod Kept
 pub mod Steps
 pub mod Refusals
+pub mod Meant

@@ -19,7 +19,9 @@ use Rattle.ld_tree.specs.formers.entries.Entries.{on_value}
 use Rattle.ld_tree.proofs.Recursion.{para-roll}
 use Rattle.ld_expand.specs.declared.words.Meaning.{Meaning}
 use Rattle.ld_expand.specs.declared.words.Meaning.TheVariants.{IdKeyword, TypeKeyword, ValueKeyword, OtherKeyword, Property, Unmapped}
-use Rattle.ld_expand.specs.Words.{is_keyword, iri_of, meaning_of, is_keyword_form}
+use Rattle.ld_codes.specs.Keywords.{is_keyword}
+use Rattle.ld_iri.specs.Words.{is_keyword_form}
+use Rattle.ld_expand.specs.Words.{iri_of, meaning_of}
 use Rattle.ld_expand.specs.Kinds.{is_text, is_iri_text, items_of}
 use Rattle.ld_expand.specs.Plain.{is_plain, is_plain_under, is_plain_entry}
 use Rattle.ld_expand.proofs.Kept.{same_name}

@@ -2,7 +2,7 @@
 use Rattle.std.specs.Prelude.{Bool, true, false, not, List, [], ◌∷◌}
 use Rattle.ld_tree.specs.declared.tree.Tree.{Tree, out-Tree}
 use Rattle.ld_tree.specs.declared.tree.Tree.TheOpen.{Tree-F}
-use Rattle.ld_expand.specs.Words.{is_keyword_form}
+use Rattle.ld_iri.specs.Words.{is_keyword_form}
 
 abbrev pub is_null : Tree → Bool
 is_null t = elim (out-Tree t) [ Tree-F.Null ↦ true | _ ↦ false ]

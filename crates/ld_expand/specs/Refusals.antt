@@ -8,7 +8,8 @@ use Rattle.ld_tree.specs.declared.tree.Tree.TheOpen.{Tree-F}
 use Rattle.ld_tree.specs.Recursion.{para}
 use Rattle.ld_expand.specs.declared.words.Meaning.{Meaning}
 use Rattle.ld_expand.specs.declared.words.Meaning.TheVariants.{IdKeyword, TypeKeyword, ValueKeyword, OtherKeyword}
-use Rattle.ld_expand.specs.Words.{is_keyword, iri_of, meaning_of}
+use Rattle.ld_codes.specs.Keywords.{is_keyword}
+use Rattle.ld_expand.specs.Words.{iri_of, meaning_of}
 use Rattle.ld_expand.specs.Kinds.{is_null, is_scalar, is_text, items_of}
 
 -- a value that the step for its name may refuse

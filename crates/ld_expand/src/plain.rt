@@ -4,7 +4,8 @@ ghost use Rattle.std.specs.List.{list_all};
 ghost use Rattle.ld_expand.specs.Kinds.{items_of, is_iri_text};
 ghost use Rattle.ld_expand.specs.Plain.{is_plain, is_plain_under, is_plain_entry};
 
-use crate::words::{Meaning, is_keyword_form, meaning_of};
+use crate::words::{Meaning, meaning_of};
+use ld_iri::is_keyword_form;
 use ld_tree::{Entries, Items, Tree};
 
 /// Whether the tree is plain, at every depth.

@@ -1,7 +1,8 @@
 ghost use Rattle.std.specs.Prelude.{◌≡◌};
-ghost use Rattle.std.specs.List.{list_all};
-ghost use Rattle.std.specs.Char.{is_ascii_alphabetic};
-ghost use Rattle.ld_expand.specs.Words.{is_keyword_form, has_colon, meaning_of};
+ghost use Rattle.ld_expand.specs.Words.{has_colon, meaning_of, meaning_of_form, meaning_of_keyword};
+
+use ld_codes::Keyword;
+use ld_iri::is_keyword_form;
 
 /// What a name of a map is, once it is expanded.
 #[derive(Clone, Copy, Debug, PartialEq, Eq)]
@@ -20,33 +21,38 @@ pub enum Meaning {
     Unmapped,
 }
 
-#[tactic(auto, unfolding(crate::specs::Words::meaning_of))]
+/// What a name means.
 pub fn meaning_of(name: &str) -> Meaning
     ensures { result ≡ meaning_of name.now }
 {
-    match name {
-        "@id" => Meaning::IdKeyword,
-        "@type" => Meaning::TypeKeyword,
-        "@value" => Meaning::ValueKeyword,
-        _ if is_keyword_form(name) => Meaning::OtherKeyword,
-        _ if has_colon(name) => Meaning::Property,
-        _ => Meaning::Unmapped,
+    match Keyword::from_text(name) {
+        Some(keyword) => meaning_of_keyword(keyword),
+        None => meaning_of_form(name),
     }
 }
 
-pub fn is_keyword_form(text: &str) -> bool
-    ensures { result ≡ is_keyword_form text.now }
+fn meaning_of_keyword(keyword: Keyword) -> Meaning
+    ensures { result ≡ meaning_of_keyword keyword }
 {
-    match text.as_bytes() {
-        [b'@', letters @ ..] => !letters.is_empty() && are_letters(letters),
-        _ => false,
+    match keyword {
+        Keyword::Id => Meaning::IdKeyword,
+        Keyword::Typed => Meaning::TypeKeyword,
+        Keyword::Value => Meaning::ValueKeyword,
+        _ => Meaning::OtherKeyword,
     }
 }
 
-fn are_letters(bytes: &[u8]) -> bool
-    ensures { result ≡ list_all is_ascii_alphabetic bytes.now }
+// What a name means that is no keyword.
+fn meaning_of_form(name: &str) -> Meaning
+    ensures { result ≡ meaning_of_form name.now }
 {
-    bytes.iter().all(|byte| byte.is_ascii_alphabetic())
+    if is_keyword_form(name) {
+        Meaning::OtherKeyword
+    } else if has_colon(name) {
+        Meaning::Property
+    } else {
+        Meaning::Unmapped
+    }
 }
 
 fn has_colon(text: &str) -> bool

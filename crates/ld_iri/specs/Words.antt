@@ -1,10 +1,8 @@
--- The kinds of words of JSON-LD 1.1: IRIs, blank node identifiers, keywords and what has their form.
-use Rattle.std.specs.Prelude.{◌≡◌, ℕ, ◌==◌, Bool, false, ◌&&◌, ◌||◌, not, List, [], ◌∷◌, is_some, codes, nat_eq}
+-- The kinds of words of JSON-LD 1.1: IRIs, blank node identifiers, and what has the form of a keyword.
+use Rattle.std.specs.Prelude.{ℕ, ◌==◌, Bool, false, ◌&&◌, ◌||◌, not, List, [], ◌∷◌, is_some, codes, nat_eq}
 use Rattle.std.specs.List.{starts_with, list_all}
 use Rattle.std.specs.Char.{is_ascii_alphabetic, is_control}
 use Rattle.std.specs.Str.{chars}
-use Rattle.ld_codes.specs.declared.keyword.Keyword.{Keyword}
-use Rattle.ld_codes.specs.Keywords.{keyword_text}
 use Rattle.ld_iri.specs.Components.{parts}
 
 -- own rule: the characters that an IRI hasn't are the space, the controls of Unicode (class Cc), and
@@ -27,15 +25,11 @@ is_iri text = is_some (parts text).scheme && allows text
 abbrev pub is_blank : List ℕ → Bool
 is_blank text = starts_with nat_eq text (codes "_:")
 
--- JSON-LD 1.1, "Syntax Tokens and Keywords": the text is that of a keyword
-abbrev pub IsKeyword : List ℕ → Type 0
-IsKeyword text = (k : Keyword) × (keyword_text k ≡ text)
-
 abbrev pub is_name : List ℕ → Bool
 is_name [] = false
 is_name (b ∷ bs) = is_ascii_alphabetic b && list_all is_ascii_alphabetic bs
 
--- the same section: what has the form of a keyword is "@" and one or more ASCII letters
+-- JSON-LD 1.1, "Syntax Tokens and Keywords": what has the form of a keyword is "@" and one or more ASCII letters
 abbrev pub is_keyword_form : List ℕ → Bool
 is_keyword_form [] = false
 is_keyword_form (b ∷ bs) = b == 64 && is_name bs

@@ -1,7 +1,8 @@
-ghost use Rattle.std.specs.Prelude.{◌≡◌, ◌↔◌, IsTrue};
+ghost use Rattle.std.specs.Prelude.{◌≡◌};
 ghost use Rattle.std.specs.List.{list_all};
 ghost use Rattle.std.specs.Char.{is_ascii_alphabetic};
-ghost use Rattle.ld_iri.specs.Words.{is_forbidden, allows, is_iri, is_blank, IsKeyword, is_keyword_form};
+ghost use Rattle.ld_codes.specs.Keywords.{is_keyword};
+ghost use Rattle.ld_iri.specs.Words.{is_forbidden, allows, is_iri, is_blank, is_keyword_form};
 
 use crate::parts::split;
 use ld_codes::Keyword;
@@ -41,7 +42,7 @@ pub fn is_blank(text: &str) -> bool
 
 /// Whether the text is a keyword (JSON-LD 1.1, "Syntax Tokens and Keywords"). Takes no memory.
 pub fn is_keyword(text: &str) -> bool
-    ensures { IsTrue result ↔ IsKeyword text.now }
+    ensures { result ≡ is_keyword text.now }
 {
     Keyword::from_text(text).is_some()
 }
