@@ -1,5 +1,14 @@
 //! The history of the context store: its events, the state after a list of them, and which event
 //! may come next. Nothing here is a thread or a lock.
+//!
+//! Make a `State`, and call its steps (`open_session`, `pin`, `lack`, `publish`, `fail`, `lapse`, `answer`,
+//! `evict`, `revise`, `close_session`), each of which finds its case and appends an entry or two, or `step`,
+//! which appends an entry that is given. `State::entries` and `State::limits` are all that a state is seen as.
+//! The laws of every legal history are `versions_rise`, `flights_are_single` and the others beside them.
+//!
+//! Of `specs/`, to be believed are Store, Turns, Words, Rules, After and Legal (which histories are legal),
+//! Steps (what a step answers and appends) and Counts and Laws (what the laws say). Seen, Holders, Index,
+//! Leading, Order, Choices and Plans are the code's own: the tables, and what the code plans.
 #![tactic(auto)]
 
 mod answers;
@@ -23,15 +32,9 @@ mod plans;
 mod refusal;
 mod rules;
 mod session;
-#[cfg(test)]
-mod slow;
 mod state;
-#[cfg(test)]
-mod step_tests;
 mod steps;
 mod tables;
-#[cfg(test)]
-mod tests;
 
 pub use answers::{
     EvictAnswer, LackAnswer, OpenAnswer, Out, PinAnswer, PublishAnswer, ReviseAnswer,
@@ -42,6 +45,6 @@ pub use laws::{
     requests_are_short, room_is_kept, versions_rise,
 };
 pub use limits::Limits;
-pub use name::Name;
+pub use name::{Answer, Name};
 pub use refusal::StepRefusal;
 pub use state::{State, step};

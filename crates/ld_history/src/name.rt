@@ -86,7 +86,7 @@ impl Ord for Name {
 
 /// A flight's answer that is kept once. Contracts see the answer.
 #[derive(Debug, Drop)]
-pub(crate) struct Answer {
+pub struct Answer {
     kept: Arc<Kept>,
 }
 

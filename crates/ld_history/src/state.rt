@@ -49,6 +49,20 @@ impl State {
 }
 
 impl State {
+    /// The limits that the history is under.
+    pub fn limits(&self) -> Limits
+        ensures { result ≡ self.now.limits }
+    {
+        self.limits
+    }
+
+    /// The entries, the first one first. The history keeps IRIs that share their texts.
+    pub fn entries(&self) -> &[Entry<Name, Answer>]
+        ensures { result.now ≡ self.now.entries }
+    {
+        self.history.as_slice()
+    }
+
     /// How many entries the history has. It is legal: the rules allow each entry after those before it.
     pub fn events(&self) -> u64
         ensures count { result ≡ length self.now.entries }

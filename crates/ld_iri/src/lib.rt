@@ -1,5 +1,11 @@
 //! IRIs: their parts, the resolution of references and relative references (RFC 3986, section 5), and the
 //! words that JSON-LD tells apart by their form.
+//!
+//! Call `split` for the parts of a reference, `resolve` for what it means under a base, `relative` for the
+//! reference that stands for an IRI under a base, and `is_iri`, `is_blank`, `is_keyword` and `is_keyword_form`
+//! for the form of a word. `laws` has what holds of all texts. Of `specs/`, Components and Resolution are RFC
+//! 3986's, Words is JSON-LD's but for IRI form, and Relative is the project's own rule; these are to be
+//! believed. View and Outputs are the code's own.
 #![tactic(auto)]
 
 mod dots;
@@ -7,8 +13,6 @@ pub mod laws;
 mod parts;
 mod resolution;
 mod shortening;
-#[cfg(test)]
-mod tests;
 mod words;
 
 pub use parts::{Parts, split};

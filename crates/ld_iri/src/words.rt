@@ -41,6 +41,7 @@ pub fn is_blank(text: &str) -> bool
 }
 
 /// Whether the text is a keyword (JSON-LD 1.1, "Syntax Tokens and Keywords"). Takes no memory.
+#[tactic(auto, using(ld_codes::proofs::Known::found_is_keyword))]
 pub fn is_keyword(text: &str) -> bool
     ensures { result ≡ is_keyword text.now }
 {

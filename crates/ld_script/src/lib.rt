@@ -1,4 +1,8 @@
 //! Scripts of store events: a text of lines, each of which is a step on a history that begins empty.
+//!
+//! Call `run_script`: it answers what the script prints, or the first bad line. Of `specs/`, Lines, Scripts and
+//! Printed are to be believed: how a line is spelled, which texts are scripts, and what is printed. Reading is
+//! the code's own.
 #![tactic(auto)]
 
 mod laws;
@@ -9,8 +13,6 @@ mod read;
 mod refusal;
 mod run;
 mod script;
-#[cfg(test)]
-mod tests;
 mod verb;
 mod word;
 

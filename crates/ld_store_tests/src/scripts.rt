@@ -1,28 +1,25 @@
-use crate::read::{read_limits, read_line};
-use crate::{ScriptRefusal, run_script};
+use ld_script::{ScriptRefusal, run_script};
 use std::alloc::Global;
 use std::process::Abort;
 
 fn is_good(rt: &impl Abort, alloc: Global, line: &str) {
-    let read = read_line(alloc, line.as_bytes()).expect(rt, "memory");
-    assert!(rt; read.is_some(), "{line}");
+    assert!(rt; run_script(alloc, line.as_bytes()).is_ok(), "{line}");
 }
 
 #[test]
 fn each_kind_of_line_is_good(rt: HostRuntime) {
     let alloc = rt.alloc();
-    is_good(&rt, alloc, "open 255");
-    is_good(&rt, alloc, "pin 1");
-    is_good(&rt, alloc, "lack 1 http://a.example/context#~!");
-    is_good(&rt, alloc, "give 1 1048577 0123abcd");
-    is_good(&rt, alloc, "fail 1 0 9223372036854775807");
-    is_good(&rt, alloc, "lapse 4294967295");
-    is_good(&rt, alloc, "evict 1 x");
-    is_good(&rt, alloc, "revise 1 x");
-    is_good(&rt, alloc, "answer 10");
-    is_good(&rt, alloc, "close 0");
-    let limits = b"limits 256 64 16777216 134217728\nopen 0\n".as_slice();
-    assert!(rt; read_limits(limits).is_some(), "limits");
+    is_good(&rt, alloc, "open 255\n");
+    is_good(&rt, alloc, "pin 1\n");
+    is_good(&rt, alloc, "lack 1 http://a.example/context#~!\n");
+    is_good(&rt, alloc, "give 1 1048577 0123abcd\n");
+    is_good(&rt, alloc, "fail 1 0 9223372036854775807\n");
+    is_good(&rt, alloc, "lapse 4294967295\n");
+    is_good(&rt, alloc, "evict 1 x\n");
+    is_good(&rt, alloc, "revise 1 x\n");
+    is_good(&rt, alloc, "answer 10\n");
+    is_good(&rt, alloc, "close 0\n");
+    is_good(&rt, alloc, "limits 256 64 16777216 134217728\nopen 0\n");
 }
 
 fn is_bad(rt: &impl Abort, alloc: Global, text: &str, line: u64) {

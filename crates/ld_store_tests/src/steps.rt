@@ -1,6 +1,6 @@
 ghost use Rattle.ld_history.specs.Legal.{AreWithin};
 
-use crate::{
+use ld_history::{
     EvictAnswer, Given, How, LackAnswer, Limits, OpenAnswer, PinAnswer, PublishAnswer,
     ReviseAnswer, State, StepRefusal,
 };

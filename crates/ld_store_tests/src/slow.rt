@@ -1,14 +1,12 @@
 //! The rules once more, as plainly as can be: each question goes over the whole list of entries, and
 //! nothing is remembered. Tests compare it with `step`.
 
-use crate::event::{Entry, Event, Given, How};
-use crate::limits::Limits;
-use crate::name::{Answer, Name};
+use ld_history::{Answer, Entry, Event, Given, How, Limits, Name};
 
 /// A legal history, under its limits.
 #[derive(Clone, Copy)]
 pub struct Slow<'a> {
-    pub limits: &'a Limits,
+    pub limits: Limits,
     pub entries: &'a [Entry<Name, Answer>],
 }
 

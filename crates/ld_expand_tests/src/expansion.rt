@@ -1,4 +1,4 @@
-use crate::{Stop, expand};
+use ld_expand::{Stop, expand};
 use ld_tree::{Entries, Items, Num, Text, Tree};
 use std::alloc::Global;
 use std::process::Abort;

@@ -1,7 +1,7 @@
 ghost use Rattle.ld_history.specs.Legal.{AreWithin};
 
 use crate::slow::Slow;
-use crate::{Entry, Event, Given, How, Limits, State, StepRefusal, step};
+use ld_history::{Entry, Event, Given, How, Limits, State, StepRefusal, step};
 use ld_tree::{Items, Text};
 use std::alloc::Global;
 use std::process::Abort;
@@ -174,8 +174,8 @@ fn begin(rt: &impl Abort, alloc: Global, limits: Limits) -> State
 /// What the plain program says of the entry.
 fn plainly(state: &State, entry: &Entry) -> bool {
     let slow = Slow {
-        limits: &state.limits,
-        entries: state.history.as_slice(),
+        limits: state.limits(),
+        entries: state.entries(),
     };
     slow.allows(entry)
 }
