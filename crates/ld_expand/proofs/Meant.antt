@@ -5,7 +5,6 @@ use Rattle.std.proofs.lemmas.Slice.Eq.{bytes_eq-Decides}
 use Rattle.ld_codes.specs.declared.keyword.Keyword.{Keyword}
 use Rattle.ld_codes.specs.declared.keyword.Keyword.TheVariants as k
 use Rattle.ld_codes.specs.Keywords.{keyword_text}
-use Rattle.ld_expand.specs.declared.words.Meaning.{Meaning}
 use Rattle.ld_expand.specs.declared.words.Meaning.TheVariants.{IdKeyword, TypeKeyword, ValueKeyword}
 use Rattle.ld_expand.specs.Words.{meaning_of, meaning_of_form, meaning_of_keyword}
 
