@@ -4,13 +4,9 @@ use Rattle.std.proofs.lemmas.Bool.{cases_lt}
 use Rattle.std.specs.declared.cmp.Ordering.TheVariants.{Less, Greater}
 use Rattle.std.specs.Ordering.{ordering_reverse}
 use Rattle.std.specs.Cmp.Lexicographic.{nat_list_cmp_total}
-use Rattle.std.specs.List.Sorted.{IsStrictlySortedBy}
 use Rattle.std.proofs.lemmas.Map.Keys.{Less-from_sorted}
 use Rattle.ld_tree.specs.Names.{AreInOrder, name_cmp, IsAt, IsPlace}
-
-pub in_order_none : AreInOrder []
-unfolding IsStrictlySortedBy
-in_order_none = tt
+pub use Rattle.ld_tree.specs.InOrder.{in_order_none}
 
 pub greater_from_less : (a b : List ℕ) → name_cmp b a ≡ Less → name_cmp a b ≡ Greater
 greater_from_less a b e = nat_list_cmp_total.antisymm a b ∙ ap ordering_reverse e

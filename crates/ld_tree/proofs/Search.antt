@@ -1,15 +1,15 @@
 -- Entries by their names.
-use Rattle.std.proofs.Common.{◌≡◌, ℕ, zero, suc, ◌<◌, ◌≤◌, List, [], ◌∷◌, length, get_or, set, refl, sym, ap, ◌∙◌, arith, Some, None}
+use Rattle.std.proofs.Common.{◌≡◌, ℕ, zero, suc, ◌<◌, ◌≤◌, List, [], ◌∷◌, length, get_or, set, refl, sym, ap, ◌∙◌, arith, Some, None, true, false}
 use Rattle.std.specs.declared.cmp.Ordering.TheVariants.{Less, Equal, Greater}
 use Rattle.std.specs.Ordering.{is_eq, match_ordering}
-use Rattle.std.specs.Cmp.Lexicographic.{nat_list_cmp_total}
-use Rattle.std.specs.List.{AllByRecursion, insert}
-use Rattle.std.specs.List.Sorted.{IsStrictlySortedBy}
-use Rattle.std.specs.Map.{keys_of, lookup}
+use Rattle.std.specs.List.{insert, remove}
+use Rattle.std.specs.Prelude.{cond}
+use Rattle.std.specs.Map.{keys_of, lookup, remove_entry}
 use Rattle.std.specs.BTreeMap.{insert_entry, is_at}
 use Rattle.std.proofs.lemmas.Map.Entries.{lookup_head, lookup_tail, length-keys_of}
 use Rattle.ld_tree.specs.Names.{AreInOrder, name_cmp, IsAt, IsPlace}
-use Rattle.ld_tree.proofs.Order.{less_from_greater, after_found}
+use Rattle.ld_tree.proofs.Order.{after_found}
+pub use Rattle.ld_tree.specs.InOrder.{in_order_insert, in_order_remove}
 
 module _ {T : Type 0} where
   -- the name of the entry at i
@@ -35,6 +35,21 @@ module _ {T : Type 0} (name : List ℕ) where
   lookup_none (x ∷ xs) (suc i) after before =
       lookup_tail (is_at (name_cmp name)) x xs (ap is_eq (after 0 (omega arith))) ∙ lookup_none xs i (λ k lt. after (suc k) (omega arith)) (λ k le lt. before (suc k) (omega arith) (omega arith))
 
+  pub remove_found : (es : List (List ℕ × T)) (i : ℕ) (e : List ℕ × T) → i < length es → e ≡ get_or es i e
+      → ((k : ℕ) → k < i → name_cmp name (get_or (keys_of es) k []) ≡ Greater) → name_cmp name e.0 ≡ Equal → remove_entry (is_at (name_cmp name)) es ≡ remove es i
+  remove_found [] i e lt is after eq = absurd (omega arith)
+  remove_found (x ∷ xs) zero e lt is after eq = ap (λ b. cond b xs (x ∷ remove_entry (is_at (name_cmp name)) xs)) (ap is_eq (ap (λ y. name_cmp name y.0) (sym is) ∙ eq))
+  remove_found (x ∷ xs) (suc i) e lt is after eq =
+      ap (λ b. cond b xs (x ∷ remove_entry (is_at (name_cmp name)) xs)) (ap is_eq (after 0 (omega arith)))
+      ∙ ap (λ l. x ∷ l) (remove_found xs i e (omega arith) is (λ k below. after (suc k) (omega arith)) eq)
+
+  pub remove_none : (es : List (List ℕ × T)) → lookup (is_at (name_cmp name)) es ≡ None → es ≡ remove_entry (is_at (name_cmp name)) es
+  remove_none [] h = refl
+  remove_none (x ∷ xs) h = elim (is_at (name_cmp name) x.0) as (λ b. cond b (Some x.1) (lookup (is_at (name_cmp name)) xs) ≡ None → x ∷ xs ≡ cond b xs (x ∷ remove_entry (is_at (name_cmp name)) xs)) [
+    | true ↦ λ g. cc
+    | false ↦ λ g. ap (λ l. x ∷ l) (remove_none xs g)
+  ] h
+
   module _ (value : T) where
     pub insert_found : (es : List (List ℕ × T)) (i : ℕ) (e : List ℕ × T) → i < length es → e ≡ get_or es i e
         → ((k : ℕ) → k < i → name_cmp name (get_or (keys_of es) k []) ≡ Greater) → name_cmp name e.0 ≡ Equal → insert_entry name_cmp es name value ≡ set es i (e.0, value)
@@ -56,30 +71,6 @@ module _ {T : Type 0} (name : List ℕ) where
         ap (λ o. match_ordering o ((name, value) ∷ x ∷ xs) ((x.0, value) ∷ xs) (x ∷ insert_entry name_cmp xs name value)) (after 0 (omega arith))
         ∙ ap (λ l. x ∷ l) (insert_new xs i (omega arith) (λ k lt. after (suc k) (omega arith)) (λ k from lt. before (suc k) (omega arith) (omega arith)))
 
-    below_insert : (key : List ℕ) (es : List (List ℕ × T)) → name_cmp key name ≡ Less → AllByRecursion (λ y. name_cmp key y ≡ Less) (keys_of es)
-        → AllByRecursion (λ y. name_cmp key y ≡ Less) (keys_of (insert_entry name_cmp es name value))
-    below_insert key [] p h = (p, tt)
-    below_insert key (x ∷ xs) p h =
-        elim (name_cmp name x.0) as (λ o. AllByRecursion (λ y. name_cmp key y ≡ Less) (keys_of (match_ordering o ((name, value) ∷ x ∷ xs) ((x.0, value) ∷ xs) (x ∷ insert_entry name_cmp xs name value)))) [
-          | Less ↦ (p, h)
-          | Equal ↦ h
-          | Greater ↦ (h.0, below_insert key xs p h.1)
-        ]
-
-    below_more : (a b : List ℕ) (names : List (List ℕ)) → name_cmp a b ≡ Less → AllByRecursion (λ y. name_cmp b y ≡ Less) names → AllByRecursion (λ y. name_cmp a y ≡ Less) names
-    below_more a b [] p h = tt
-    below_more a b (n ∷ ns) p h = (nat_list_cmp_total.trans a b n p h.0, below_more a b ns p h.1)
-
-    pub in_order_insert : (es : List (List ℕ × T)) → AreInOrder (keys_of es) → AreInOrder (keys_of (insert_entry name_cmp es name value))
-    unfolding IsStrictlySortedBy
-    in_order_insert [] h = (tt, tt)
-    in_order_insert (x ∷ xs) h =
-        elim (name_cmp name x.0) as (λ o. name_cmp name x.0 ≡ o → AreInOrder (keys_of (match_ordering o ((name, value) ∷ x ∷ xs) ((x.0, value) ∷ xs) (x ∷ insert_entry name_cmp xs name value)))) [
-          | Less ↦ λ e. ((e, below_more name x.0 (keys_of xs) e h.0), h)
-          | Equal ↦ λ e. h
-          | Greater ↦ λ e. (below_insert x.0 xs (less_from_greater x.0 name e) h.0, in_order_insert xs h.1)
-        ] refl
-
 -- what a search has told
 module _ {T : Type 0} (name : List ℕ) (es : List (List ℕ × T)) (i : ℕ) where
   module _ (e : List ℕ × T) (sorted : AreInOrder (keys_of es)) (at : IsAt name (keys_of es) i) (is : e ≡ get_or es i e) where
@@ -91,6 +82,9 @@ module _ {T : Type 0} (name : List ℕ) (es : List (List ℕ × T)) (i : ℕ) wh
 
     pub found : lookup (is_at (name_cmp name)) es ≡ Some e.1
     found = lookup_found name es i e within_found is (after_found name (keys_of es) sorted i at) equal_found
+
+    pub taken_found : remove es i ≡ remove_entry (is_at (name_cmp name)) es
+    taken_found = sym (remove_found name es i e within_found is (after_found name (keys_of es) sorted i at) equal_found)
 
     pub put_found : (value : T) → set es i (e.0, value) ≡ insert_entry name_cmp es name value
     put_found value = sym (insert_found name value es i e within_found is (after_found name (keys_of es) sorted i at) equal_found)

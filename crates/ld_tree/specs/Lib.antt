@@ -1,7 +1,10 @@
 pub mod Bounds
 pub mod CompactText
+pub mod InOrder
+pub mod Maps
 pub mod Names
 pub mod Reading
 pub mod Recursion
+pub mod Texts
 pub mod Trees
 pub mod formers

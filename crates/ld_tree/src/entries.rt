@@ -3,6 +3,7 @@ ghost use Rattle.std.specs.Map.{keys_of, lookup};
 ghost use Rattle.std.specs.BTreeMap.{insert_entry, is_at};
 ghost use Rattle.std.specs.List.Sorted.{IsStrictlySortedBy-prop};
 ghost use Rattle.ld_tree.specs.Names.{AreInOrder, name_cmp, IsAt, IsPlace};
+ghost use Rattle.ld_tree.specs.Maps.{find as value_at, put as with_put, take_out as without};
 ghost use Rattle.std.specs.Cmp.Lexicographic.{pointwise, slice_cmp, slice_partial_cmp, lists_per, lists_equiv, lists_po, lists_total, lists_agrees, lists_ties};
 ghost use Rattle.std.specs.Prelude.{◌&&◌, Some, nat_eq, refl};
 ghost use Rattle.std.specs.Ordering.{nat_cmp, ordering_then, partial_ordering_then};
@@ -99,12 +100,31 @@ impl<T> Entries<T> {
     }
 }
 
+impl<T> Entries<T> {
+    /// Takes the name and its value away, where it is there. The entries behind it move by one place, so
+    /// this takes time linear in the number of entries; `NameMap` has one that is logarithmic.
+    pub fn take_out(&mut self, name: &str) -> Option<T>
+        ensures former { result ≡ value_at self.old name.now }
+        ensures map { self.new ≡ without self.old name.now }
+    {
+        match find(self.entries.as_slice(), name) {
+            Ok(at) => {
+                let (_, former) = self.entries.remove(at);
+                Some(former)
+            }
+            Err(_) => None,
+        }
+    }
+}
+
 impl<T: Drop> Entries<T> {
     /// Puts one entry and gives the former one. The search is logarithmic, and the entries behind a new
-    /// name move by one place: names that come in order are appended.
+    /// name move by one place: names that come in order are appended, and a map of n names in any other
+    /// order takes n² moves. `NameMap` builds it in n log n.
     pub fn put(&mut self, name: Text, value: T) -> Result<Option<T>, (Text, T, NoMemory)>
         ensures former { IfOk result (λ old. old ≡ lookup (is_at (name_cmp name)) self.old.0) }
         ensures entries { OnOk result (self.new.0 ≡ insert_entry name_cmp self.old.0 name value) }
+        ensures map { OnOk result (self.new ≡ with_put self.old name value) }
         ensures given_back { IfErr result (λ e. (e.0 ≡ name) × (e.1 ≡ value)) }
         ensures unchanged { OnErr result (self.new ≡ self.old) }
     {

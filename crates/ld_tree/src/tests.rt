@@ -1,4 +1,4 @@
-use crate::{Entries, Items, NoMemory, Num, Text, Tree};
+use crate::{Entries, Items, NameMap, NoMemory, Num, Text, Tree};
 use std::alloc::Global;
 use std::cmp::Ordering;
 use std::test::Fail;
@@ -61,4 +61,29 @@ fn copies_and_compares(rt: HostRuntime) -> Result<(), Fail> {
     assert_eq!(rt; other.cmp(&tree), Ordering::Less);
     assert!(rt; tree.get("document").is_some() && tree.get("n").is_none());
     Ok(())
+}
+
+#[test]
+fn a_map_is_built_in_any_order(rt: HostRuntime) {
+    let alloc = rt.alloc();
+    let mut map = NameMap::new(alloc);
+    for (name, n) in [("b", 1), ("é", 2), ("a", 3), ("", 4), ("ab", 5), ("b", 6)] {
+        let name = Text::from_str(alloc, name).expect(&rt, "memory");
+        map.put(name, n).expect(&rt, "memory");
+    }
+    assert_eq!(rt; map.len(), 5);
+    assert_eq!(rt; map.get("b").copied(), Some(6));
+    assert_eq!(rt; map.replace("a", 7), Ok(3));
+    assert_eq!(rt; map.replace("aa", 8), Err(8));
+    assert_eq!(rt; map.take_out("ab"), Some(5));
+    let entries = map.into_entries(alloc).expect(&rt, "memory");
+    let again = NameMap::from_entries(alloc, entries).expect(&rt, "memory");
+    let mut entries = again.into_entries(alloc).expect(&rt, "memory");
+    assert_eq!(rt; entries.take_out("b"), Some(6));
+    let want = [("", 4), ("a", 7), ("é", 2)];
+    assert_eq!(rt; entries.as_slice().len(), want.len());
+    for (entry, (name, n)) in entries.as_slice().iter().zip(want) {
+        assert_eq!(rt; entry.0.as_str(), name);
+        assert_eq!(rt; entry.1, n);
+    }
 }

@@ -43,6 +43,13 @@ impl Text {
         Text { inner }
     }
 
+    pub(crate) fn into_string(self) -> String
+        ensures { string_bytes result ≡ self }
+    {
+        let Text { inner } = self;
+        inner
+    }
+
     pub fn as_str(&self) -> &str
         ensures { result.now ≡ self.now }
     {

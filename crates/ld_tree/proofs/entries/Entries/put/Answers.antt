@@ -34,6 +34,9 @@ returns-in-Ok-clause-entries g c =
     put_found name es c.in-Ok.at c.index_mut.result.now c.self.inside.in_order at c.index_mut.ensures.value c.replace-former.new.dest
     ∙ ap (λ v. insert_entry name_cmp es name v) c.replace-former.ensures.after ∙ ap (λ s. insert_entry name_cmp s name c.args.value) (ap (λ s. s.0) c.self.view_is)
 
+pub returns-in-Ok-clause-map : goal.returns-in-Ok-clause-map
+returns-in-Ok-clause-map g c = same_sorted _ _ (returns-in-Ok-clause-entries g c)
+
 pub returns-after-insert-clause-former : goal.returns-after-insert-clause-former
 returns-after-insert-clause-former g c =
     let name = c.args.name in
@@ -53,6 +56,17 @@ returns-after-insert-clause-entries g c =
     let new = put_new name es c.in-Err.at c.args.value place ∙ ap (λ (s : Sorted g.row.T.Denot). insert_entry name_cmp s.0 name c.args.value) c.self.view_is in
     elim c.match-insert.branch [
       | in-Ok-insert w ↦ rw w.result-is (w.in-Ok-insert.ensures.items ∙ new)
+      | in-Err-insert w ↦ rw w.result-is tt
+    ]
+
+pub returns-after-insert-clause-map : goal.returns-after-insert-clause-map
+returns-after-insert-clause-map g c =
+    let name = c.args.name in
+    let es = c.self.inside.entries.items in
+    let place = subst (λ s. IsPlace name (keys_of s) c.in-Err.at) c.as_slice.ensures.value (subst (λ n. IsPlace n (keys_of c.as_slice.result.now) c.in-Err.at) c.as_str.ensures c.in-Err.ensures) in
+    let new = put_new name es c.in-Err.at c.args.value place ∙ ap (λ (s : Sorted g.row.T.Denot). insert_entry name_cmp s.0 name c.args.value) c.self.view_is in
+    elim c.match-insert.branch [
+      | in-Ok-insert w ↦ rw w.result-is (same_sorted _ _ (w.in-Ok-insert.ensures.items ∙ new))
       | in-Err-insert w ↦ rw w.result-is tt
     ]
 
