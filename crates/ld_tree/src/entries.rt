@@ -67,6 +67,14 @@ impl<T> Entries<T> {
         }
     }
 
+    /// With room for this many entries, so that putting them takes no more memory.
+    pub fn with_capacity(alloc: Global, capacity: usize) -> Result<Entries<T>, NoMemory>
+        ensures { IfOk result (λ entries. entries.0 ≡ []) }
+    {
+        let entries = Vec::with_capacity(alloc, capacity)?;
+        Ok(Entries { entries })
+    }
+
     /// Takes no memory.
     pub fn from_sorted(entries: Vec<(Text, T)>) -> Entries<T>
         requires { AreInOrder (keys_of entries.items) }
