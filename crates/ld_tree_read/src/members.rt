@@ -37,11 +37,15 @@ fn in_turn(alloc: Global, members: Vec<(Text, Tree)>) -> Result<Entries<Tree>, N
 
 /// The members by name; of those with one name the last (RFC 8259 section 4).
 ///
-/// The sort is linear where they come in order, and keeps the order of those with one name. Behind it
-/// each is put at the end, so that nothing is moved.
+/// Those that come in order, each name once, are the entries as they are. Else they are sorted, which keeps
+/// the order of those with one name, and where a name is repeated each is put at the end, so that nothing
+/// is moved.
 pub fn entries_of(alloc: Global, mut members: Vec<(Text, Tree)>) -> Result<Entries<Tree>, NoMemory>
     ensures { IfOk result (λ es. es.0 ≡ put_all [] members.items) }
 {
+    if are_in_order(members.as_slice()) {
+        return Ok(Entries::from_sorted(members));
+    }
     members.sort_by(|a, b| a.0.cmp(&b.0))?;
     if are_in_order(members.as_slice()) {
         return Ok(Entries::from_sorted(members));

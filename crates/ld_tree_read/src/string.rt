@@ -9,21 +9,8 @@ ghost use Rattle.ld_tree_read.specs.Outcome.{Refused};
 use crate::cursor::Cursor;
 use crate::escape::read_escape;
 use crate::refusal::ReadRefusal;
-use ld_tree::Text;
+use ld_tree::{Text, plain_len};
 use std::alloc::Global;
-
-fn is_unescaped(byte: u8) -> bool
-    ensures { result ≡ unescaped byte }
-{
-    byte >= b' ' && byte != b'"' && byte != b'\\'
-}
-
-/// How many bytes at the front stand for themselves.
-fn run_len(bytes: &[u8]) -> usize
-    ensures { result ≡ prefix_len unescaped bytes.now }
-{
-    bytes.iter().take_while(|b| is_unescaped(**b)).count()
-}
 
 /// Appends the bytes that stand for themselves, up to the first that doesn't.
 fn read_run(text: &mut Vec<u8>, cursor: &mut Cursor<'_>) -> Result<(), ReadRefusal>
@@ -32,7 +19,7 @@ fn read_run(text: &mut Vec<u8>, cursor: &mut Cursor<'_>) -> Result<(), ReadRefus
     ensures refused { IfErr result (λ e. Refused e ⊥) }
 {
     let rest = cursor.rest();
-    let count = run_len(rest);
+    let count = plain_len(rest);
     text.extend_from_slice(&rest[..count])?;
     cursor.advance(count);
     Ok(())

@@ -15,7 +15,12 @@ returns c =
 
 pub returns-then-are_in_order : goal.returns-then-are_in_order
 returns-then-are_in_order c =
-    let sorted = c.sort_by.new.self.items in
     let order = subst (λ ms. AreInOrder (keys_of ms)) c.as_slice.ensures.value (c.if-are_in_order.ensures refl) in
-    c.from_sorted.ensures ∙ sym (put_in_order sorted order)
+    c.from_sorted.ensures ∙ sym (put_in_order c.args.members.items order)
+
+pub returns-then-are_in_order-2 : goal.returns-then-are_in_order-2
+returns-then-are_in_order-2 c =
+    let sorted = c.sort_by.new.self.items in
+    let order = subst (λ ms. AreInOrder (keys_of ms)) c.as_slice-2.ensures.value (c.if-are_in_order-2.ensures refl) in
+    c.from_sorted-then-are_in_order-2.ensures ∙ sym (put_in_order sorted order)
     ∙ stable_same t.Null c.args.members.items sorted (c.sort_by.ensures.stable before (ranks_by nat_list_cmp_total (λ x. x.0)) (answers_always _ _ _ (λ f a r g h. search rules)))
