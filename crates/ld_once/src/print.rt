@@ -2,7 +2,7 @@ ghost use Rattle.std.specs.Prelude.{◌≡◌, ◌<◌, ◌≤◌, ◌++◌, len
 ghost use Rattle.ld_tree.specs.CompactText.{text, quoted, escaped, escape, needs_escape, hex_digit, number, with_commas, member_texts};
 
 use itoa::Buffer;
-use ld_tree::{Entries, Items, NoMemory, Num, Tree};
+use ld_tree::{Entries, Items, NoMemory, Num, Tree, plain_len};
 
 /// Appends the compact text of the tree (RFC 8259, with no white space, names in code point order).
 #[cycle(print)]
@@ -97,7 +97,7 @@ fn print_escaped(bytes: &[u8], out: &mut Vec<u8>) -> Result<(), NoMemory>
 {
     let mut rest = bytes;
     while !rest.is_empty() {
-        let (plain, others) = rest.split_at(plain_len(rest));
+        let (plain, others) = rest.split_at(plain_run(rest));
         print_bytes(plain, out)?;
         rest = match others.split_first() {
             None => return Ok(()),
@@ -111,25 +111,12 @@ fn print_escaped(bytes: &[u8], out: &mut Vec<u8>) -> Result<(), NoMemory>
 }
 
 // The length of the run of plain bytes at the front.
-fn plain_len(bytes: &[u8]) -> usize
+fn plain_run(bytes: &[u8]) -> usize
     ensures within { result ≤ length bytes.now }
     ensures plain { escaped bytes.now ≡ take result bytes.now ++ escaped (drop result bytes.now) }
     ensures ended { result < length bytes.now → IsTrue (needs_escape (slice_index bytes.now result)) }
 {
-    let mut n = 0;
-    for byte in bytes {
-        if is_escaped(*byte) {
-            return n;
-        }
-        n += 1;
-    }
-    n
-}
-
-fn is_escaped(byte: u8) -> bool
-    ensures { result ≡ needs_escape byte }
-{
-    byte < 0x20 || byte == b'"' || byte == b'\\'
+    plain_len(bytes)
 }
 
 fn print_escape(byte: u8, out: &mut Vec<u8>) -> Result<(), NoMemory>
