@@ -1,4 +1,4 @@
-"""Makes the documents that the benchmarks run on: envelopes of five kinds, each in doubling sizes."""
+"""Makes the documents that the benchmarks run on: envelopes of six kinds, each in doubling sizes."""
 
 import json
 import random
@@ -31,6 +31,12 @@ def names(size):
     return {f"http://e.example/{n:09}": n for n in numbers}
 
 
+def reversed_names(size):
+    """One map of many names in reverse order: 100,000 in about 4 MB."""
+    count = size // 40
+    return {f"http://e.example/names/{n:06}": n for n in reversed(range(count))}
+
+
 def numbers(size):
     """One list of numbers."""
     return {"http://e.example/n": [1_000_000 + n % 9_000_000 for n in range(size // 8)]}
@@ -46,7 +52,7 @@ def escaped_strings(size):
     return {"http://e.example/s": ['ab\n"' * 1_600 for _ in range(size // 9_600)]}
 
 
-KINDS = (nodes, names, numbers, plain_strings, escaped_strings)
+KINDS = (nodes, names, reversed_names, numbers, plain_strings, escaped_strings)
 
 
 def envelope(kind, size):

@@ -1,6 +1,5 @@
-ghost use Rattle.std.specs.Prelude.{◌≡◌, ◌==◌, nat_lt, length, map, IsTrue};
+ghost use Rattle.std.specs.Prelude.{◌≡◌, ◌==◌, nat_lt, not};
 ghost use Rattle.std.specs.List.{prefix_len};
-ghost use Rattle.std.specs.Simd.Lanes.{mask_l};
 ghost use Rattle.ld_tree.specs.Reading.{is_unescaped as unescaped};
 
 use std::simd::prelude::*;
@@ -15,30 +14,35 @@ fn is_unescaped(byte: u8) -> bool
     byte >= b' ' && byte != b'"' && byte != b'\\'
 }
 
-// Where this byte is.
-fn places_of(block: u8x16, byte: u8) -> u64
-    ensures { result ≡ mask_l (map (λ x. x == byte) block) }
+// How many bytes of the block come before the first of this kind.
+fn run_before(block: u8x16, byte: u8) -> usize
+    ensures { result ≡ prefix_len (λ x. not (x == byte)) block }
 {
-    block.simd_eq(u8x16::splat(byte)).to_bitmask()
-}
-
-// Where a control character is.
-fn places_of_controls(block: u8x16) -> u64
-    ensures { result ≡ mask_l (map (λ x. nat_lt x 32) block) }
-{
-    block.simd_lt(u8x16::splat(b' ')).to_bitmask()
-}
-
-fn is_plain_block(block: u8x16) -> bool
-    ensures { IsTrue result → prefix_len unescaped block ≡ length block }
-{
-    let quotes = places_of(block, b'"');
-    let backslashes = places_of(block, b'\\');
-    let controls = places_of_controls(block);
-    if quotes != 0 || backslashes != 0 || controls != 0 {
-        return false;
+    let places = block.simd_eq(u8x16::splat(byte)).to_bitmask();
+    if places == 0 {
+        return LANES;
     }
-    true
+    places.trailing_zeros() as usize
+}
+
+// The same for control characters.
+fn run_before_control(block: u8x16) -> usize
+    ensures { result ≡ prefix_len (λ x. not (nat_lt x 32)) block }
+{
+    let places = block.simd_lt(u8x16::splat(b' ')).to_bitmask();
+    if places == 0 {
+        return LANES;
+    }
+    places.trailing_zeros() as usize
+}
+
+fn run_in_block(block: u8x16) -> usize
+    ensures { result ≡ prefix_len unescaped block }
+{
+    let quote = run_before(block, b'"');
+    let backslash = run_before(block, b'\\');
+    let control = run_before_control(block);
+    quote.min(backslash.min(control))
 }
 
 fn plain_len_by_bytes(bytes: &[u8]) -> usize
@@ -53,7 +57,11 @@ pub fn plain_len(bytes: &[u8]) -> usize
     ensures { result ≡ prefix_len unescaped bytes.now }
 {
     let mut at = 0;
-    while bytes.len() - at >= LANES && is_plain_block(u8x16::from_slice(&bytes[at..])) {
+    while bytes.len() - at >= LANES {
+        let run = run_in_block(u8x16::from_slice(&bytes[at..]));
+        if run < LANES {
+            return at + run;
+        }
         at += LANES;
     }
     at + plain_len_by_bytes(&bytes[at..])

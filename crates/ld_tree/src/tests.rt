@@ -32,7 +32,7 @@ fn sample(alloc: Global) -> Result<Tree, Fail> {
 #[test]
 fn names_stand_in_order(rt: HostRuntime) -> Result<(), Fail> {
     let alloc = rt.alloc();
-    let mut entries = Entries::new(alloc);
+    let mut entries = Entries::with_capacity(alloc, 5)?;
     for name in ["b", "a", "é", "", "ab", "b"] {
         let value = Tree::Text(text(alloc, name)?);
         entries.put(text(alloc, name)?, value).map_err(|e| e.2)?;
