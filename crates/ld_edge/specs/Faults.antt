@@ -20,3 +20,7 @@ NeverFalls before after = before ≤ after
 -- the number rose, or stands at its last value before and after
 abbrev pub Rose : ℕ → ℕ → Type 0
 Rose before after = (before < after) ⊎ ((before ≡ last_count) × (after ≡ last_count))
+
+-- the failures of either of two sides, together
+abbrev pub both_counts : ℕ → ℕ → ℕ
+both_counts a b = min (a + b) last_count

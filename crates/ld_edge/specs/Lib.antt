@@ -1,5 +1,6 @@
 pub mod Faults
 pub mod Memory
+pub mod Sides
 pub mod Status
 pub mod StdSink
 pub mod StdSource

@@ -16,8 +16,9 @@ next_call n = min (n + 1) (2 ^ 64 - 1)
 abbrev pub NextFails : Plan → Type 0
 NextFails p = Contains p.fail_at (next_call p.calls)
 
--- the bytes left, and the most that one call gives
+-- the bytes given so far, those left, and the most that one call gives
 pub record Reading : Type 0 where
+  pub given : List ℕ
   pub left : List ℕ
   pub piece : ℕ
   pub plan : Plan
@@ -27,3 +28,8 @@ pub record Writing : Type 0 where
   pub held : List ℕ
   pub piece : ℕ
   pub plan : Plan
+
+-- the two sides of a link
+pub record Ends : Type 0 where
+  pub source : Reading
+  pub sink : Writing

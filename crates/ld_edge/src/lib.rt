@@ -1,9 +1,19 @@
 //! The outside as the program meets it: where bytes come from, where they go, what a failure is,
 //! and the status that the program ends with.
+//!
+//! Code above is written for any [`Source`], [`Sink`] or [`Link`], and its contracts say by their meanings
+//! `incoming` and `outgoing` what it reads and writes. [`MemSource`], [`MemSink`] and [`MemLink`] tell all
+//! their bytes, and fail at the calls that they are told. [`StdSource`] and [`StdSink`] stand over files,
+//! pipes and streams, and tell no bytes.
+//!
+//! To be believed: `specs/Sides.antt` (what is told of a side), `specs/Faults.antt` (counts of failures) and
+//! `specs/Status.antt` (the numbers of the exit status). The rest of `specs/` is how the objects here are
+//! seen: over memory, and over a reader or writer.
 #![tactic(auto)]
 
 mod faults;
 mod interrupted;
+mod mem_link;
 mod mem_sink;
 mod mem_source;
 mod outside;
@@ -13,9 +23,10 @@ mod std_sink;
 mod std_source;
 
 pub use faults::FaultCount;
+pub use mem_link::MemLink;
 pub use mem_sink::MemSink;
 pub use mem_source::MemSource;
-pub use outside::{Failed, Sink, Source};
+pub use outside::{Failed, Link, Sink, Source};
 pub use plan::FaultPlan;
 pub use status::Status;
 pub use std_sink::StdSink;

@@ -1,4 +1,4 @@
-ghost use Rattle.std.specs.Prelude.{◌≡◌, ◌≤◌, ◌<◌, [], ◌++◌, Some, length, min, take, IfOk, OnOk, OnErr, IsErr, IsPermutation};
+ghost use Rattle.std.specs.Prelude.{◌≡◌, ◌≤◌, ◌<◌, [], ◌++◌, Some, None, length, min, take, IfOk, OnOk, OnErr, IsErr, IsPermutation};
 
 use crate::outside::{Failed, Sink};
 use crate::plan::FaultPlan;
@@ -53,9 +53,9 @@ impl Sink for MemSink {
     ghost use Rattle.ld_edge.specs.Faults.{next_count, NeverFalls, Rose};
     ghost use Rattle.ld_edge.specs.Memory.{next_call, NextFails};
 
-    ghost held = { λ s. Some s.held };
+    ghost outgoing = { λ s. record { held = Some s.held; faults = s.plan.faults.number } };
 
-    ghost fault_count = { λ s. s.plan.faults.number };
+    ghost beside = { λ _. None };
 
     ghost at_most_last = { λ s. s.plan.faults.in_range };
 

@@ -1,4 +1,4 @@
-ghost use Rattle.std.specs.Prelude.{◌≡◌, ◌≤◌, ◌<◌, ◌↔◌, [], ◌++◌, Some, length, min, take, drop, IfOk, OnOk, OnErr, IsErr, IsPermutation};
+ghost use Rattle.std.specs.Prelude.{◌≡◌, ◌≤◌, ◌<◌, ◌↔◌, ◌==◌, [], ◌++◌, Some, None, IsTrue, length, min, take, drop, IfOk, OnOk, OnErr, IsErr, IsPermutation};
 
 use crate::outside::{Failed, Source};
 use crate::plan::FaultPlan;
@@ -15,12 +15,12 @@ pub struct MemSource {
 }
 
 impl Model for MemSource {
-    ghost use Rattle.std.specs.Prelude.{◌≤◌, length, drop};
+    ghost use Rattle.std.specs.Prelude.{◌≤◌, length, take, drop};
     ghost use Rattle.ld_edge.specs.Memory.{Reading};
 
     ghost Value = { Reading };
 
-    ghost view = { λ s. record { left = drop s.at s.bytes; piece = s.piece; plan = s.plan } };
+    ghost view = { λ s. record { given = take s.at s.bytes; left = drop s.at s.bytes; piece = s.piece; plan = s.plan } };
 
     ghost invariant = { λ s. (s.at ≤ length s.bytes) × (1 ≤ s.piece) };
 }
@@ -30,6 +30,7 @@ impl MemSource {
     /// Takes no memory.
     pub fn new(bytes: Raw, piece: usize, fail_at: Vec<u64>) -> MemSource
         requires { 1 ≤ piece }
+        ensures given { result.given ≡ [] }
         ensures left { result.left ≡ bytes }
         ensures piece { result.piece ≡ piece }
         ensures calls { result.plan.calls ≡ 0 }
@@ -49,9 +50,10 @@ impl Source for MemSource {
     ghost use Rattle.ld_edge.specs.Faults.{next_count, NeverFalls, Rose};
     ghost use Rattle.ld_edge.specs.Memory.{next_call, NextFails};
 
-    ghost left = { λ s. Some s.left };
+    // Its end is met where nothing is left.
+    ghost incoming = { λ s. record { given = Some s.given; left = Some s.left; is_ended = (length s.left == 0); faults = s.plan.faults.number } };
 
-    ghost fault_count = { λ s. s.plan.faults.number };
+    ghost beside = { λ _. None };
 
     ghost at_most_last = { λ s. s.plan.faults.in_range };
 
@@ -61,8 +63,10 @@ impl Source for MemSource {
         ensures failed { IsErr result ↔ NextFails self.old.plan }
         ensures count { IfOk result (λ n. n ≡ min self.old.piece (min (length self.old.left) (length into.old))) }
         ensures end { IfOk result (λ n. (n ≡ 0) ↔ (self.old.left ≡ [])) }
-        ensures given { IfOk result (λ n. into.new ≡ take n self.old.left ++ drop n into.old) }
+        ensures into { IfOk result (λ n. into.new ≡ take n self.old.left ++ drop n into.old) }
+        ensures given { IfOk result (λ n. self.new.given ≡ self.old.given ++ take n self.old.left) }
         ensures left { IfOk result (λ n. self.new.left ≡ drop n self.old.left) }
+        ensures keeps_given { OnErr result (self.new.given ≡ self.old.given) }
         ensures keeps_left { OnErr result (self.new.left ≡ self.old.left) }
         ensures keeps_into { OnErr result (into.new ≡ into.old) }
 

@@ -21,7 +21,7 @@ impl<W: Write + Drop> StdSink<W> {
 
     pub fn new(writer: W) -> StdSink<W>
         ensures writer { writer_of result ≡ writer }
-        ensures faults { ⟦<StdSink<W> as Sink>⟧.fault_count result ≡ 0 }
+        ensures faults { (⟦<StdSink<W> as Sink>⟧.outgoing result).faults ≡ 0 }
     {
         StdSink {
             writer,
@@ -42,9 +42,9 @@ impl<W: Write + Drop> Sink for StdSink<W> {
     ghost use Rattle.ld_edge.specs.Faults.{next_count, NeverFalls, Rose};
     ghost use Rattle.ld_edge.specs.StdSink.{writer_of};
 
-    ghost held = { λ _. None };
+    ghost outgoing = { λ s. record { held = None; faults = s.faults.number } };
 
-    ghost fault_count = { λ s. s.faults.number };
+    ghost beside = { λ _. None };
 
     ghost at_most_last = { λ s. s.faults.in_range };
 

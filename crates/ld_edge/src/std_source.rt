@@ -1,4 +1,4 @@
-ghost use Rattle.std.specs.Prelude.{◌≡◌, ◌<◌, ◌≤◌, None, length, IfOk, OnOk, OnErr};
+ghost use Rattle.std.specs.Prelude.{◌≡◌, ◌<◌, ◌≤◌, None, false, true, if◌then◌else◌, ◌==◌, length, IfOk, OnOk, OnErr};
 
 use crate::faults::FaultCount;
 use crate::interrupted;
@@ -12,6 +12,7 @@ use std::io::Read;
 #[derive(Debug, Drop)]
 pub struct StdSource<R: Read + Drop> {
     reader: R,
+    is_ended: bool,
     faults: FaultCount,
 }
 
@@ -20,10 +21,12 @@ impl<R: Read + Drop> StdSource<R> {
 
     pub fn new(reader: R) -> StdSource<R>
         ensures reader { reader_of result ≡ reader }
-        ensures faults { ⟦<StdSource<R> as Source>⟧.fault_count result ≡ 0 }
+        ensures ended { (⟦<StdSource<R> as Source>⟧.incoming result).is_ended ≡ false }
+        ensures faults { (⟦<StdSource<R> as Source>⟧.incoming result).faults ≡ 0 }
     {
         StdSource {
             reader,
+            is_ended: false,
             faults: FaultCount::new(),
         }
     }
@@ -31,7 +34,11 @@ impl<R: Read + Drop> StdSource<R> {
     pub fn into_inner(self) -> R
         ensures { result ≡ reader_of self }
     {
-        let StdSource { reader, faults: _ } = self;
+        let StdSource {
+            reader,
+            is_ended: _,
+            faults: _,
+        } = self;
         reader
     }
 }
@@ -41,9 +48,10 @@ impl<R: Read + Drop> Source for StdSource<R> {
     ghost use Rattle.ld_edge.specs.Faults.{next_count, NeverFalls, Rose};
     ghost use Rattle.ld_edge.specs.StdSource.{reader_of};
 
-    ghost left = { λ _. None };
+    // Its end is met where a read gave no byte.
+    ghost incoming = { λ s. record { given = None; left = None; is_ended = s.is_ended; faults = s.faults.number } };
 
-    ghost fault_count = { λ s. s.faults.number };
+    ghost beside = { λ _. None };
 
     ghost at_most_last = { λ s. s.faults.in_range };
 
@@ -52,6 +60,8 @@ impl<R: Read + Drop> Source for StdSource<R> {
 
         // Where the reader's own bytes are known to a proof, what it gave is handed on.
         ensures within { IfOk result (λ n. n ≤ length into.new) }
+        ensures ended { IfOk result (λ n. self.new.is_ended ≡ (if n == 0 then true else self.old.is_ended)) }
+        ensures keeps_ended { OnErr result (self.new.is_ended ≡ self.old.is_ended) }
         ensures reader { ReadConsumes (R.remaining (reader_of self.old)) (R.remaining (reader_of self.new)) result into.new }
 
         ensures keeps_count { OnOk result (self.new.faults.number ≡ self.old.faults.number) }
@@ -60,7 +70,12 @@ impl<R: Read + Drop> Source for StdSource<R> {
         ensures never_falls { NeverFalls self.old.faults.number self.new.faults.number }
     {
         match interrupted::read(&mut self.reader, into) {
-            Ok(count) => Ok(count),
+            Ok(count) => {
+                if count == 0 {
+                    self.is_ended = true;
+                }
+                Ok(count)
+            }
             Err(_) => {
                 self.faults.rise();
                 Err(Failed)

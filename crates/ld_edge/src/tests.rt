@@ -1,5 +1,10 @@
-//! Sources and sinks, called through their traits.
-use crate::{Failed, FaultPlan, MemSink, MemSource, Sink, Source, Status, StdSink, StdSource};
+//! Sources, sinks and links, called through their traits.
+ghost use Rattle.std.specs.Prelude.{◌≡◌, ◌<◌, ℕ, length, take, IfOk};
+ghost use Rattle.std.specs.Io.KnownBytes.{prepend_known, append_known};
+
+use crate::{
+    Failed, FaultPlan, Link, MemLink, MemSink, MemSource, Sink, Source, Status, StdSink, StdSource,
+};
 use ld_tree::Raw;
 use std::alloc::Global;
 use std::io;
@@ -85,6 +90,40 @@ fn memory_takes_bytes(rt: HostRuntime) -> Result<(), Fail> {
         write_bytes(&rt, &mut sink, b"abcde", wanted);
         assert_eq!(rt; sink.bytes(), b"abcde".as_slice());
     }
+    Ok(())
+}
+
+// Reads once, and writes once of what was read. That a write leaves what is left, and a read what is
+// held, is what ties the bytes of the two sides.
+fn echo<L: Link>(link: &mut L, into: &mut [u8]) -> Result<usize, Failed>
+    requires { 0 < length into.old }
+    ensures held { IfOk result (λ n. (L.outgoing link.new).held ≡ append_known (L.outgoing link.old).held (take n into.new)) }
+    ensures left { IfOk result (λ n. (m : ℕ) × ((L.incoming link.old).left ≡ prepend_known (take m into.new) (L.incoming link.new).left)) }
+{
+    let count = link.read(into)?;
+    if count == 0 {
+        return Ok(0);
+    }
+    link.write(&into[..count])
+}
+
+#[test]
+fn a_link_counts_the_failures_of_both_sides(rt: HostRuntime) -> Result<(), Fail> {
+    let bytes = Raw::from_vec(b"abcde".to_vec(rt.alloc())?);
+    let source = MemSource::new(bytes, 3, [2].to_vec(rt.alloc())?);
+    let sink = MemSink::new(rt.alloc(), 1, [1].to_vec(rt.alloc())?);
+    let mut link = MemLink::new(source, sink);
+    let mut into = [0; 4];
+    assert_eq!(rt; echo(&mut link, &mut into), Err(Failed));
+    assert_eq!(rt; echo(&mut link, &mut into), Err(Failed));
+    assert_eq!(rt; link.link_faults(), 2);
+    assert_eq!(rt; Source::faults(&link), 1);
+    assert_eq!(rt; Sink::faults(&link), 1);
+    assert_eq!(rt; echo(&mut link, &mut into), Ok(1));
+    assert_eq!(rt; echo(&mut link, &mut into), Ok(0));
+    let (source, sink) = link.into_parts();
+    assert_eq!(rt; sink.bytes(), b"d".as_slice());
+    assert_eq!(rt; source.faults(), 1);
     Ok(())
 }
 

@@ -1,15 +1,15 @@
--- What each status says of a run, from how the run ended.
-use Rattle.std.proofs.Common.{◌≡◌, ◌∙◌, ◌⊎◌, inl, inr, ℕ, List, [], ◌∷◌, refl, sym, subst, arith}
-use Rattle.std.specs.Prelude.{Option, Some, codes}
-use Rattle.std.specs.Io.KnownBytes.{append_known}
-use Rattle.ld_edge.specs.Faults.{Rose}
+-- Which status comes, from how the run ended.
+use Rattle.std.proofs.Common.{◌≡◌, ◌∙◌, ◌⊎◌, inl, inr, ℕ, ◌<◌, List, [], ◌∷◌, ◌++◌, length, refl, sym, ap, subst, arith, length-append, append-nil}
+use Rattle.std.specs.Prelude.{Option, Some, None, IfSome, codes}
+use Rattle.std.specs.Io.KnownBytes.{prepend_known}
+use Rattle.ld_edge.specs.Sides.{Incoming, Outgoing}
 use Rattle.ld_edge.specs.declared.status.Status.{Status}
-use Rattle.ld_edge.specs.declared.status.Status.TheVariants.{Done, Refused, Usage, NoMemory, InputTooLong}
+use Rattle.ld_edge.specs.declared.status.Status.TheVariants.{Done, Refused, Usage, InputTooLong}
 use Rattle.ld_tree.specs.declared.tree.Tree.{Tree}
 use Rattle.ld_script.proofs.Scripts.{not_bad}
 use Rattle.ld_once.specs.declared.command.Command.{Command}
 use Rattle.ld_once.specs.declared.command.Command.TheVariants.{Expand, Schedule}
-use Rattle.ld_once.specs.Runs.{IsFormOf, IsNoJson, IsNotBuilt, HasPlain, IsResult, IsWhyNot, Due, AreTold, IsLeftAfter, IsWrittenFor, IsFaultFor, IsUnlessFailed, Ended, written, write_failed, read_failed, no_memory}
+use Rattle.ld_once.specs.Runs.{input_limit, IsFormOf, IsNoJson, IsNotBuilt, HasPlain, IsResult, IsWhyNot, Due, Reads, IsReadToEnd, IsReadFor, IsUnlessFailed, Ended, written, write_failed, read_failed, no_memory}
 
 words_differ : codes "expand" ∷ [] ≡ codes "schedule" ∷ [] → ⊥
 words_differ e = cc
@@ -68,56 +68,39 @@ module _ (words : List (List ℕ)) (bytes out out' : List ℕ) where
   Due-once InputTooLong s' h k = once_too_long s' h k
   Due-once _ s' h k = absurd h
 
-module _ (words : List (List ℕ)) (left left' : Option (List ℕ)) (read read' : ℕ) (held held' : Option (List ℕ)) (wrote wrote' : ℕ) where
-  abbrev Run : Status → Type 0
-  Run s = Ended words left left' read read' held held' wrote wrote' s
+-- what a source that tells its bytes has left, behind those that were read
+rest_told : (left left' : Option (List ℕ)) (bytes read : List ℕ) → left ≡ Some bytes → left ≡ prepend_known read left' → (rest : List ℕ) × (left' ≡ Some rest) × (bytes ≡ read ++ rest)
+rest_told left (Some rest) bytes read e f = (rest, refl, cc)
+rest_told left None bytes read e f = absurd cc
 
-  written_for : (s : Status) (bytes out : List ℕ) → AreTold left bytes → Due words bytes s out → held' ≡ append_known held out → IsWrittenFor s words left held held'
-  written_for Done bytes out told due is = (bytes, out, told, due, is)
-  written_for Refused bytes out told due is = (bytes, out, told, due, is)
-  written_for Usage bytes out told due is = (bytes, out, told, due, is)
-  written_for InputTooLong bytes out told due is = (bytes, out, told, due, is)
-  written_for _ bytes out told due is = absurd due
+module _ (words : List (List ℕ)) (bytes read out : List ℕ) (source source' : Incoming) (told : source.left ≡ Some bytes) where
+  -- all bytes were read
+  all_read : Reads source source' read → IsReadToEnd source' → read ≡ bytes
+  all_read reads end =
+      let rest = rest_told source.left source'.left bytes read told reads.1 in
+      let none : rest.0 ≡ [] = subst (λ l. IfSome l (λ r. r ≡ [])) rest.1 end.1 in
+      sym (rest.2 ∙ ap (λ r. read ++ r) none ∙ append-nil read)
 
-  pub Ended-written : (s : Status) → Run s → IsWrittenFor s words left held held'
-  Ended-written s (written status bytes out told due after is) = written_for status bytes out told due is
-  Ended-written s (write_failed status bytes out n told due rose is) = (bytes, out, status, n, told, due, is)
-  Ended-written s (read_failed form rose is) = is
-  Ended-written s (no_memory is) = is
+  -- more than the limit was read
+  too_many : Reads source source' read → input_limit < length read → input_limit < length bytes
+  too_many reads long =
+      let rest = rest_told source.left source'.left bytes read told reads.1 in
+      subst (λ b. input_limit < length b) (sym rest.2) (omega (arith, long, length-append read rest.0))
 
-  pub Ended-left : (s : Status) → Run s → IsLeftAfter s left left'
-  Ended-left s (written status bytes out told due after is) = after
-  Ended-left s (write_failed status bytes out n told due rose is) = tt
-  Ended-left s (read_failed form rose is) = tt
-  Ended-left s (no_memory is) = tt
+  -- what is due for the bytes read is due for the bytes told
+  Due-told : (s : Status) → Due words read s out → IsReadFor s source source' read → Due words bytes s out
+  Due-told Done h k = subst (λ b. Due words b Done out) (all_read k.0 k.1) h
+  Due-told Refused h k = subst (λ b. Due words b Refused out) (all_read k.0 k.1) h
+  Due-told Usage h k = h
+  Due-told InputTooLong h k = (h.0, too_many k h.1, h.2)
+  Due-told _ h k = absurd h
 
-  no_fault : (s : Status) (bytes out : List ℕ) → Due words bytes s out → IsFaultFor s words read read' wrote wrote'
-  no_fault Done bytes out due = tt
-  no_fault Refused bytes out due = tt
-  no_fault Usage bytes out due = tt
-  no_fault InputTooLong bytes out due = tt
-  no_fault _ bytes out due = absurd due
-
-  pub Ended-fault : (s : Status) → Run s → IsFaultFor s words read read' wrote wrote'
-  Ended-fault s (written status bytes out told due after is) = no_fault status bytes out due
-  Ended-fault s (write_failed status bytes out n told due rose is) = rose
-  Ended-fault s (read_failed form rose is) = (form, rose)
-  Ended-fault s (no_memory is) = tt
-
+module _ (words : List (List ℕ)) (source source' : Incoming) (sink sink' : Outgoing) where
   -- where the source tells its bytes, the status is the one that is due for them, unless an object failed or memory was wanting
-  pub Ended-exact : (s : Status) → Run s → (bytes out : List ℕ) (due : Status) → left ≡ Some bytes → Due words bytes due out → IsUnlessFailed due s
-  Ended-exact s (written status bytes' out' told h after is) bytes out due e k =
-      let same : bytes ≡ bytes' = subst (λ l. AreTold l bytes') e told in
-      inl (Due-once words bytes out out' due status k (subst (λ b. Due words b status out') (sym same) h))
-  Ended-exact s (write_failed status bytes' out' n told h rose is) bytes out due e k = inr (inr (inl refl))
-  Ended-exact s (read_failed form rose is) bytes out due e k = inr (inl refl)
-  Ended-exact s (no_memory is) bytes out due e k = inr (inr (inr refl))
-
-  pub Ended-complete : (s : Status) → Run s → (bytes out : List ℕ) (due : Status) → left ≡ Some bytes → Due words bytes due out
-      → (Rose read read' → ⊥) → (Rose wrote wrote' → ⊥) → (s ≡ due) ⊎ (s ≡ NoMemory)
-  Ended-complete s (written status bytes' out' told h after is) bytes out due e k read_well wrote_well =
-      let same : bytes ≡ bytes' = subst (λ l. AreTold l bytes') e told in
-      inl (Due-once words bytes out out' due status k (subst (λ b. Due words b status out') (sym same) h))
-  Ended-complete s (write_failed status bytes' out' n told h rose is) bytes out due e k read_well wrote_well = absurd (wrote_well rose)
-  Ended-complete s (read_failed form rose is) bytes out due e k read_well wrote_well = absurd (read_well rose)
-  Ended-complete s (no_memory is) bytes out due e k read_well wrote_well = inr refl
+  pub Ended-exact : (s : Status) → Ended words source source' sink sink' s → (bytes out : List ℕ) (due : Status) → source.left ≡ Some bytes → Due words bytes due out
+      → IsUnlessFailed due s source source' sink sink'
+  Ended-exact s (written status read out' h reads writes) bytes out due told k =
+      inl (Due-once words bytes out out' due status k (Due-told words bytes read out' source source' told status h reads))
+  Ended-exact s (write_failed status read out' h reads front) bytes out due told k = inr (inr (inl (refl, front.0)))
+  Ended-exact s (read_failed form rose same) bytes out due told k = inr (inl (refl, rose))
+  Ended-exact s (no_memory form count same) bytes out due told k = inr (inr (inr refl))

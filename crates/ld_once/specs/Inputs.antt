@@ -1,5 +1,5 @@
 -- An input as far as it was read.
-use Rattle.std.specs.Prelude.{ℕ, List, ⊤}
+use Rattle.std.specs.Prelude.{◌≡◌, ℕ, List, ⊤}
 use Rattle.ld_edge.specs.Faults.{Rose}
 use Rattle.ld_once.specs.declared.input.Input.{Input}
 use Rattle.ld_once.specs.declared.input.Input.TheVariants.{Whole, TooLong}
@@ -14,6 +14,7 @@ abbrev pub IfTooLong : Input → Type 0 → Type 0
 IfTooLong (Whole bytes) P = ⊤
 IfTooLong TooLong P = P
 
-abbrev pub RoseIfFailed : InputRefusal → ℕ → ℕ → Type 0
-RoseIfFailed Failed before after = Rose before after
-RoseIfFailed NoMemory before after = ⊤
+-- the count of failures rose where a read failed, and stayed where memory was wanting
+abbrev pub IsCountFor : InputRefusal → ℕ → ℕ → Type 0
+IsCountFor Failed before after = Rose before after
+IsCountFor NoMemory before after = after ≡ before

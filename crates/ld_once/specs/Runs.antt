@@ -1,9 +1,10 @@
 -- What a run of the program owes.
-use Rattle.std.specs.Prelude.{◌≡◌, ⊤, ℕ, ◌<◌, ◌≤◌, ◌⊎◌, true, IfSome, Option, List, [], ◌∷◌, ◌++◌, length, take, codes, decimal}
-use Rattle.std.specs.Io.KnownBytes.{append_known}
+use Rattle.std.specs.Prelude.{◌≡◌, ℕ, ◌<◌, ◌≤◌, ◌⊎◌, true, IsTrue, IfSome, List, [], ◌∷◌, ◌++◌, length, take, codes, decimal}
+use Rattle.std.specs.Io.KnownBytes.{append_known, prepend_known}
 use Rattle.ld_edge.specs.Faults.{Rose}
+use Rattle.ld_edge.specs.Sides.{Incoming, Outgoing}
 use Rattle.ld_edge.specs.declared.status.Status.{Status}
-use Rattle.ld_edge.specs.declared.status.Status.TheVariants.{Done, Refused, Usage, ReadFault, WriteFault, LoadFault, TooMany, NoMemory, InputTooLong}
+use Rattle.ld_edge.specs.declared.status.Status.TheVariants.{Done, Refused, Usage, ReadFault, WriteFault, NoMemory, InputTooLong}
 use Rattle.ld_tree.specs.CompactText.{text}
 use Rattle.ld_tree.specs.declared.tree.Tree.{Tree, out-Tree}
 use Rattle.ld_tree.specs.declared.tree.Tree.TheOpen.{Tree-F}
@@ -96,59 +97,43 @@ Due words bytes Usage out = (IsForm words → ⊥) × (out ≡ usage)
 Due words bytes InputTooLong out = IsForm words × (input_limit < length bytes) × (out ≡ input_too_long)
 Due words bytes _ out = ⊥
 
--- these are the bytes that a source had left, where it tells
-abbrev pub AreTold : Option (List ℕ) → List ℕ → Type 0
-AreTold left bytes = IfSome left (λ told. told ≡ bytes)
+-- these bytes were read, and no read failed: where they are told, those given gained them and those left lost them
+abbrev pub Reads : Incoming → Incoming → List ℕ → Type 0
+Reads source source' bytes =
+    (source'.given ≡ append_known source.given bytes) × (source.left ≡ prepend_known bytes source'.left) × (source'.faults ≡ source.faults)
 
--- no byte is left, where the source tells
-abbrev pub IsReadToEnd : Option (List ℕ) → Type 0
-IsReadToEnd left = IfSome left (λ rest. rest ≡ [])
+-- the source was read to its end: where it tells, no byte is left
+abbrev pub IsReadToEnd : Incoming → Type 0
+IsReadToEnd source = IsTrue source.is_ended × IfSome source.left (λ rest. rest ≡ [])
 
--- what the source has left after a run with this status: nothing where its bytes are answered, all where it isn't read
-abbrev pub IsLeftAfter : Status → Option (List ℕ) → Option (List ℕ) → Type 0
-IsLeftAfter Done left left' = IsReadToEnd left'
-IsLeftAfter Refused left left' = IsReadToEnd left'
-IsLeftAfter Usage left left' = left' ≡ left
-IsLeftAfter _ left left' = ⊤
+-- what was read for what is due: all bytes that are answered, enough to see that they are too many, or nothing at all
+abbrev pub IsReadFor : Status → Incoming → Incoming → List ℕ → Type 0
+IsReadFor Usage source source' bytes = source' ≡ source
+IsReadFor InputTooLong source source' bytes = Reads source source' bytes
+IsReadFor _ source source' bytes = Reads source source' bytes × IsReadToEnd source'
 
--- how a run ended: `left` and `held` are what the source and the sink tell, `read` and `wrote` their counts of faults
-pub data Ended (words : List (List ℕ)) (left left' : Option (List ℕ)) (read read' : ℕ) (held held' : Option (List ℕ)) (wrote wrote' : ℕ) : Status → Type 0 where
-  -- what was due was written whole
-  written : (status : Status) (bytes out : List ℕ) → AreTold left bytes → Due words bytes status out → IsLeftAfter status left left' → held' ≡ append_known held out
-      → Ended words left left' read read' held held' wrote wrote' status
-  -- a write failed, behind a front of what was due
-  write_failed : (status : Status) (bytes out : List ℕ) (n : ℕ) → AreTold left bytes → Due words bytes status out → Rose wrote wrote' → held' ≡ append_known held (take n out)
-      → Ended words left left' read read' held held' wrote wrote' WriteFault
-  read_failed : IsForm words → Rose read read' → held' ≡ held → Ended words left left' read read' held held' wrote wrote' ReadFault
-  no_memory : held' ≡ held → Ended words left left' read read' held held' wrote wrote' NoMemory
+-- the text was written whole, and no write failed
+abbrev pub Writes : Outgoing → Outgoing → List ℕ → Type 0
+Writes sink sink' out = (sink'.held ≡ append_known sink.held out) × (sink'.faults ≡ sink.faults)
 
--- a text that is due with the status was written whole, and nothing else
-abbrev pub WritesDue : List (List ℕ) → Option (List ℕ) → Option (List ℕ) → Option (List ℕ) → Status → Type 0
-WritesDue words left held held' status = (bytes out : List ℕ) × AreTold left bytes × Due words bytes status out × (held' ≡ append_known held out)
+-- a write failed behind a front of the text, which isn't all of it
+abbrev pub WritesFront : Outgoing → Outgoing → List ℕ → Type 0
+WritesFront sink sink' out = Rose sink.faults sink'.faults × ((n : ℕ) × (n < length out) × (sink'.held ≡ append_known sink.held (take n out)))
 
--- the front of a text that is due was written, and nothing else
-abbrev pub WritesFront : List (List ℕ) → Option (List ℕ) → Option (List ℕ) → Option (List ℕ) → Type 0
-WritesFront words left held held' =
-    (bytes out : List ℕ) × (status : Status) × (n : ℕ) × AreTold left bytes × Due words bytes status out × (held' ≡ append_known held (take n out))
-
--- what was written, by the status
-abbrev pub IsWrittenFor : Status → List (List ℕ) → Option (List ℕ) → Option (List ℕ) → Option (List ℕ) → Type 0
-IsWrittenFor Done words left held held' = WritesDue words left held held' Done
-IsWrittenFor Refused words left held held' = WritesDue words left held held' Refused
-IsWrittenFor Usage words left held held' = WritesDue words left held held' Usage
-IsWrittenFor InputTooLong words left held held' = WritesDue words left held held' InputTooLong
-IsWrittenFor ReadFault words left held held' = held' ≡ held
-IsWrittenFor WriteFault words left held held' = WritesFront words left held held'
-IsWrittenFor NoMemory words left held held' = held' ≡ held
-IsWrittenFor LoadFault words left held held' = ⊥
-IsWrittenFor TooMany words left held held' = ⊥
-
--- whose faults rose, by the status: a status of a fault comes only where they did
-abbrev pub IsFaultFor : Status → List (List ℕ) → ℕ → ℕ → ℕ → ℕ → Type 0
-IsFaultFor ReadFault words read read' wrote wrote' = IsForm words × Rose read read'
-IsFaultFor WriteFault words read read' wrote wrote' = Rose wrote wrote'
-IsFaultFor _ words read read' wrote wrote' = ⊤
+-- how a run ended, from what is told of the source and the sink before and after it
+pub data Ended (words : List (List ℕ)) (source source' : Incoming) (sink sink' : Outgoing) : Status → Type 0 where
+  -- what is due for the bytes that were read was written
+  written : (status : Status) (bytes out : List ℕ) → Due words bytes status out → IsReadFor status source source' bytes → Writes sink sink' out
+      → Ended words source source' sink sink' status
+  -- a front of it was
+  write_failed : (status : Status) (bytes out : List ℕ) → Due words bytes status out → IsReadFor status source source' bytes → WritesFront sink sink' out
+      → Ended words source source' sink sink' WriteFault
+  -- the words are a command's, and a read failed
+  read_failed : IsForm words → Rose source.faults source'.faults → sink' ≡ sink → Ended words source source' sink sink' ReadFault
+  -- the words are a command's, and no call failed
+  no_memory : IsForm words → source'.faults ≡ source.faults → sink' ≡ sink → Ended words source source' sink sink' NoMemory
 
 -- the status is this one, unless an object failed or memory was wanting
-abbrev pub IsUnlessFailed : Status → Status → Type 0
-IsUnlessFailed expected status = (status ≡ expected) ⊎ (status ≡ ReadFault) ⊎ (status ≡ WriteFault) ⊎ (status ≡ NoMemory)
+abbrev pub IsUnlessFailed : Status → Status → Incoming → Incoming → Outgoing → Outgoing → Type 0
+IsUnlessFailed due status source source' sink sink' =
+    (status ≡ due) ⊎ ((status ≡ ReadFault) × Rose source.faults source'.faults) ⊎ ((status ≡ WriteFault) × Rose sink.faults sink'.faults) ⊎ (status ≡ NoMemory)

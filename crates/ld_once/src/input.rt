@@ -1,7 +1,6 @@
 ghost use Rattle.std.specs.Prelude.{◌≡◌, ◌<◌, ◌≤◌, ◌↔◌, ◌++◌, ℕ, List, [], length, vec_len, IfOk, IfErr, IfSome};
-ghost use Rattle.std.specs.Io.KnownBytes.{prepend_known};
-ghost use Rattle.ld_once.specs.Runs.{IsReadToEnd};
-ghost use Rattle.ld_once.specs.Inputs.{IfWhole, IfTooLong, RoseIfFailed};
+ghost use Rattle.ld_once.specs.Runs.{Reads, IsReadToEnd};
+ghost use Rattle.ld_once.specs.Inputs.{IfWhole, IfTooLong, IsCountFor};
 
 use ld_edge::Source;
 use std::alloc::{AllocError, Global};
@@ -39,10 +38,10 @@ impl From<AllocError> for InputRefusal {
 /// Reads to the end of the input, or one byte past the limit.
 pub fn read_input<S: Source>(alloc: Global, input: &mut S) -> Result<Input, InputRefusal>
     ensures whole { IfOk result (λ i. IfWhole i (λ bytes.
-        (length bytes ≤ INPUT_LIMIT) × (S.left input.old ≡ prepend_known bytes (S.left input.new)) × IsReadToEnd (S.left input.new))) }
+        (length bytes ≤ INPUT_LIMIT) × Reads (S.incoming input.old) (S.incoming input.new) bytes × IsReadToEnd (S.incoming input.new))) }
     ensures too_long { IfOk result (λ i. IfTooLong i (
-        (bytes : List ℕ) × (INPUT_LIMIT < length bytes) × (S.left input.old ≡ prepend_known bytes (S.left input.new)))) }
-    ensures failed { IfErr result (λ e. RoseIfFailed e (S.fault_count input.old) (S.fault_count input.new)) }
+        (bytes : List ℕ) × (INPUT_LIMIT < length bytes) × Reads (S.incoming input.old) (S.incoming input.new) bytes)) }
+    ensures refused { IfErr result (λ e. IsCountFor e (S.incoming input.old).faults (S.incoming input.new).faults) }
 {
     let mut bytes = Vec::new(alloc);
     let mut piece = zeros(alloc, PIECE)?;
@@ -69,10 +68,9 @@ fn read_piece<S: Source>(
 ) -> Result<usize, InputRefusal>
     requires { 0 < length piece.old }
     ensures appended { IfOk result (λ n. (read : List ℕ) × (length read ≡ n) × (n ≤ length piece.old)
-        × (bytes.new.items ≡ bytes.old.items ++ read) × (S.left input.old ≡ prepend_known read (S.left input.new))) }
-    ensures end { IfOk result (λ n. n ≡ 0 → IsReadToEnd (S.left input.new)) }
-    ensures keeps_count { IfOk result (λ _. S.fault_count input.new ≡ S.fault_count input.old) }
-    ensures failed { IfErr result (λ e. RoseIfFailed e (S.fault_count input.old) (S.fault_count input.new)) }
+        × (bytes.new.items ≡ bytes.old.items ++ read) × Reads (S.incoming input.old) (S.incoming input.new) read) }
+    ensures end { IfOk result (λ n. n ≡ 0 → IsReadToEnd (S.incoming input.new)) }
+    ensures refused { IfErr result (λ e. IsCountFor e (S.incoming input.old).faults (S.incoming input.new).faults) }
 {
     match input.read(piece) {
         Ok(count) => {

@@ -1,4 +1,10 @@
 //! The program: one run of what the words ask for, from the bytes read to the bytes written.
+//!
+//! `run_once` is the whole of it, for any source and sink. `main` makes a source of standard input and a
+//! sink of standard output, calls it, and ends with its status.
+//!
+//! To be believed: `specs/Runs.antt`, which says what is due for which words and input, and the four ways a
+//! run may end. `specs/Replies.antt` and `specs/Inputs.antt` are of inner steps alone.
 #![tactic(auto)]
 
 mod command;

@@ -1,9 +1,7 @@
-ghost use Rattle.std.specs.Prelude.{◌≡◌, ◌⊎◌, ℕ, List, map, take, string_bytes};
-ghost use Rattle.std.specs.Io.KnownBytes.{append_known};
-ghost use Rattle.ld_edge.specs.Faults.{Rose};
+ghost use Rattle.std.specs.Prelude.{◌≡◌, ◌⊎◌, ℕ, List, Some, map, string_bytes};
 ghost use Rattle.ld_edge.specs.declared.status.Status.{Status};
 ghost use Rattle.ld_edge.specs.declared.status.Status.TheVariants as ended;
-ghost use Rattle.ld_once.specs.Runs.{Due, Ended, IsLeftAfter, IsWrittenFor, IsFaultFor, IsUnlessFailed};
+ghost use Rattle.ld_once.specs.Runs.{Due, Ended, IsUnlessFailed, Writes, WritesFront};
 
 use crate::command::Command;
 use crate::input::{Input, InputRefusal, read_input};
@@ -27,28 +25,20 @@ pub fn run_once<S: Source, K: Sink>(
     input: &mut S,
     output: &mut K,
 ) -> Status
-    ensures reads { IsLeftAfter result (S.left input.old) (S.left input.new) }
-    ensures writes { IsWrittenFor result (map string_bytes words.now) (S.left input.old) (K.held output.old) (K.held output.new) }
-    ensures faults { IsFaultFor result (map string_bytes words.now) (S.fault_count input.old) (S.fault_count input.new)
-        (K.fault_count output.old) (K.fault_count output.new) }
+    ensures ended { Ended (map string_bytes words.now) (S.incoming input.old) (S.incoming input.new)
+        (K.outgoing output.old) (K.outgoing output.new) result }
 
     // Each status comes exactly where it is due, unless an object failed or memory was wanting.
-    ensures exact { (bytes out : List ℕ) (due : Status) → S.left input.old ≡ Some bytes
-        → Due (map string_bytes words.now) bytes due out → IsUnlessFailed due result }
-
-    // Where no object fails, what is due comes, or memory was wanting.
-    ensures complete { (bytes out : List ℕ) (due : Status) → S.left input.old ≡ Some bytes
+    ensures exact { (bytes out : List ℕ) (due : Status) → (S.incoming input.old).left ≡ Some bytes
         → Due (map string_bytes words.now) bytes due out
-        → (Rose (S.fault_count input.old) (S.fault_count input.new) → ⊥)
-        → (Rose (K.fault_count output.old) (K.fault_count output.new) → ⊥)
-        → (result ≡ due) ⊎ (result ≡ ended.NoMemory) }
+        → IsUnlessFailed due result (S.incoming input.old) (S.incoming input.new) (K.outgoing output.old) (K.outgoing output.new) }
 {
     run(alloc, words, input, output)
 }
 
 fn run<S: Source, K: Sink>(alloc: Global, words: &[String], input: &mut S, output: &mut K) -> Status
-    ensures { Ended (map string_bytes words.now) (S.left input.old) (S.left input.new) (S.fault_count input.old) (S.fault_count input.new)
-        (K.held output.old) (K.held output.new) (K.fault_count output.old) (K.fault_count output.new) result }
+    ensures { Ended (map string_bytes words.now) (S.incoming input.old) (S.incoming input.new)
+        (K.outgoing output.old) (K.outgoing output.new) result }
 {
     let Some(command) = Command::from_words(words) else {
         return finish(output, Status::Usage, USAGE);
@@ -66,9 +56,8 @@ fn run<S: Source, K: Sink>(alloc: Global, words: &[String], input: &mut S, outpu
 
 // Writes the text that goes with the status.
 fn finish<K: Sink>(output: &mut K, status: Status, text: &[u8]) -> Status
-    ensures { ((result ≡ status) × (K.held output.new ≡ append_known (K.held output.old) text.now))
-        ⊎ ((result ≡ ended.WriteFault) × Rose (K.fault_count output.old) (K.fault_count output.new)
-        × ((n : ℕ) × (K.held output.new ≡ append_known (K.held output.old) (take n text.now)))) }
+    ensures { ((result ≡ status) × Writes (K.outgoing output.old) (K.outgoing output.new) text.now)
+        ⊎ ((result ≡ ended.WriteFault) × WritesFront (K.outgoing output.old) (K.outgoing output.new) text.now) }
 {
     match write_whole(output, text) {
         Ok(()) => status,

@@ -8,10 +8,13 @@ pub loop-done-preserved : goal.loop-done-preserved
 loop-done-preserved g c =
     let done = c.loop-done.done in
     let count = c.in_ok-done.field-0 in
-    let text = c.args.text.now in (
+    let text = c.args.text.now in
+    let written = c.loop-done.invariant.1 in (
       omega (arith, c.in_ok-done.ensures.within),
-      c.in_ok-done.ensures.taken ∙ ap (λ rest. append_known (g.K.Sink.held c.loop-done.output) (take count rest)) (take_rest text done)
-          ∙ ap (λ held. append_known held (take count (drop done text))) c.loop-done.invariant.1
-          ∙ append_known-take (g.K.Sink.held c.args.output.now) done count text,
-      c.in_ok-done.ensures.keeps_count ∙ c.loop-done.invariant.2,
+      (
+        c.in_ok-done.ensures.taken ∙ ap (λ rest. append_known (g.K.Sink.outgoing c.loop-done.output).held (take count rest)) (take_rest text done)
+            ∙ ap (λ held. append_known held (take count (drop done text))) written.0
+            ∙ append_known-take (g.K.Sink.outgoing c.args.output.now).held done count text,
+        c.in_ok-done.ensures.keeps_count ∙ written.1,
+      ),
     )
