@@ -97,7 +97,7 @@ Due words bytes Usage out = (IsForm words → ⊥) × (out ≡ usage)
 Due words bytes InputTooLong out = IsForm words × (input_limit < length bytes) × (out ≡ input_too_long)
 Due words bytes _ out = ⊥
 
--- these bytes were read, and no read failed: where they are told, those given gained them and those left lost them
+-- these bytes were read, and no read was counted as failed: where bytes are told, those given gained them and those left lost them
 abbrev pub Reads : Incoming → Incoming → List ℕ → Type 0
 Reads source source' bytes =
     (source'.given ≡ append_known source.given bytes) × (source.left ≡ prepend_known bytes source'.left) × (source'.faults ≡ source.faults)
@@ -112,7 +112,7 @@ IsReadFor Usage source source' bytes = source' ≡ source
 IsReadFor InputTooLong source source' bytes = Reads source source' bytes
 IsReadFor _ source source' bytes = Reads source source' bytes × IsReadToEnd source'
 
--- the text was written whole, and no write failed
+-- the text was written whole, and no write was counted as failed
 abbrev pub Writes : Outgoing → Outgoing → List ℕ → Type 0
 Writes sink sink' out = (sink'.held ≡ append_known sink.held out) × (sink'.faults ≡ sink.faults)
 
@@ -130,7 +130,7 @@ pub data Ended (words : List (List ℕ)) (source source' : Incoming) (sink sink'
       → Ended words source source' sink sink' WriteFault
   -- the words are a command's, and a read failed
   read_failed : IsForm words → Rose source.faults source'.faults → sink' ≡ sink → Ended words source source' sink sink' ReadFault
-  -- the words are a command's, and no call failed
+  -- the words are a command's, and no count of failures rose
   no_memory : IsForm words → source'.faults ≡ source.faults → sink' ≡ sink → Ended words source source' sink sink' NoMemory
 
 -- the status is this one, unless an object failed or memory was wanting
