@@ -24,6 +24,8 @@ JSON_WORK = 'json.dumps(json.load(open(sys.argv[1])), separators=(",", ":"))'
 PYLD_IMPORTS = "import json, sys\nfrom pyld import jsonld\n"
 PYLD_WORK = 'json.dumps(jsonld.expand(json.load(open(sys.argv[1]))["document"]))'
 PYLD_RUNS = 3
+JSON_RUNS = 10
+START_RUNS = 20
 
 
 def has_pyld(python):
@@ -35,7 +37,7 @@ class Peer:
 
     def __init__(self, python, imports, work, runs):
         self.python, self.work, self.runs = python, imports + work, runs
-        self.start = best([python, "-c", imports])
+        self.start = best([python, "-c", imports], runs=START_RUNS)
 
     def seconds(self, path):
         return best([self.python, "-c", self.work, path], runs=self.runs) - self.start
@@ -53,7 +55,7 @@ def main():
     program = str(TOP / "build" / "tulleshale")
     earlier = sys.argv[1] if len(sys.argv) > 1 else None
     python = next((p for p in ("/usr/bin/python3", sys.executable) if has_pyld(p)), None)
-    peers = {"json": Peer(sys.executable, JSON_IMPORTS, JSON_WORK, runs=5)}
+    peers = {"json": Peer(sys.executable, JSON_IMPORTS, JSON_WORK, JSON_RUNS)}
     if python:
         peers["PyLD"] = Peer(python, PYLD_IMPORTS, PYLD_WORK, PYLD_RUNS)
     print("ratio: to the document before it. earlier, json, PyLD: how many times as long as the program they take")
