@@ -6,8 +6,8 @@ Run by hand, at the top of the repository:
 
 It prints a line for each document, and then the rows of the table in README.md. What counts are the ratios: of one
 size to half of it (near 2), and of two programs in one run. Each time is the least of several runs, and one of the
-processor, so that other work on the machine tells little. What Python takes to start and to import its modules
-doesn't count. The program's own start does.
+processor, so that other work on the machine tells little. What Python takes to start, to import its modules and to
+end doesn't count. The program's own start and end do.
 """
 
 import pathlib
@@ -19,13 +19,11 @@ from documents import KINDS, SIZES, envelope
 from times import best
 
 TOP = pathlib.Path(__file__).resolve().parent.parent
-JSON_IMPORTS = "import json, sys\n"
+JSON_IMPORTS = "import json, sys, time\n"
 JSON_WORK = 'json.dumps(json.load(open(sys.argv[1])), separators=(",", ":"))'
-PYLD_IMPORTS = "import json, sys\nfrom pyld import jsonld\n"
+PYLD_IMPORTS = "import json, sys, time\nfrom pyld import jsonld\n"
 PYLD_WORK = 'json.dumps(jsonld.expand(json.load(open(sys.argv[1]))["document"]))'
-PYLD_RUNS = 3
-JSON_RUNS = 10
-START_RUNS = 20
+CLOCKED = "start = time.process_time()\n{}\nprint(time.process_time() - start)"
 
 
 def has_pyld(python):
@@ -33,14 +31,13 @@ def has_pyld(python):
 
 
 class Peer:
-    """What a Python program does with a document, without the start of Python and the imports."""
+    """What a Python program does with a document, by its own clock: without its start, imports and end."""
 
     def __init__(self, python, imports, work, runs):
-        self.python, self.work, self.runs = python, imports + work, runs
-        self.start = best([python, "-c", imports], runs=START_RUNS)
+        self.command, self.runs = [python, "-c", imports + CLOCKED.format(work)], runs
 
     def seconds(self, path):
-        return best([self.python, "-c", self.work, path], runs=self.runs) - self.start
+        return min(float(subprocess.check_output([*self.command, path])) for _ in range(self.runs))
 
 
 def spread(values, form):
@@ -55,9 +52,9 @@ def main():
     program = str(TOP / "build" / "tulleshale")
     earlier = sys.argv[1] if len(sys.argv) > 1 else None
     python = next((p for p in ("/usr/bin/python3", sys.executable) if has_pyld(p)), None)
-    peers = {"json": Peer(sys.executable, JSON_IMPORTS, JSON_WORK, JSON_RUNS)}
+    peers = {"json": Peer(sys.executable, JSON_IMPORTS, JSON_WORK, runs=5)}
     if python:
-        peers["PyLD"] = Peer(python, PYLD_IMPORTS, PYLD_WORK, PYLD_RUNS)
+        peers["PyLD"] = Peer(python, PYLD_IMPORTS, PYLD_WORK, runs=3)
     print("ratio: to the document before it. earlier, json, PyLD: how many times as long as the program they take")
     print(f"{'document':16} {'MB':>5} {'seconds':>8} {'ratio':>6} {'MB/s':>6} {'earlier':>8} {'json':>7} {'PyLD':>7}")
     rows = []
