@@ -1,4 +1,4 @@
-ghost use Rattle.std.specs.Prelude.{◌≡◌, [], length, vec_capacity, IfOk, OnOk, OnErr, IfErr, Some, None, option_copied};
+ghost use Rattle.std.specs.Prelude.{◌≡◌, [], length, slice_get, vec_capacity, IfOk, OnOk, OnErr, IfErr, Some, None, option_copied};
 ghost use Rattle.std.specs.Map.{keys_of};
 ghost use Rattle.std.specs.BTreeMap.{btree_map_len};
 ghost use Rattle.std.specs.List.Sorted.{IsStrictlySortedBy-prop};
@@ -11,6 +11,7 @@ use crate::no_memory::NoMemory;
 use crate::text::Text;
 use std::alloc::Global;
 use std::collections::BTreeMap;
+use std::collections::btree_map::Iter;
 use std::marker::Model;
 use std::mem;
 
@@ -136,4 +137,27 @@ fn moved_into<T: Drop>(mut room: Vec<(Text, T)>, by_name: BTreeMap<String, T>) -
         room.push_reserved((Text::from_string(name), value));
     }
     room
+}
+
+impl<T> NameMap<T> {
+    /// The entries in order.
+    pub fn iter(&self) -> Iter<'_, String, T>
+        ensures { named result ≡ self.now.0 }
+    {
+        self.by_name.iter()
+    }
+
+    /// The name at the place, in the order of names, in time linear in the place.
+    pub fn name_at(&self, place: usize) -> Option<&str>
+        ensures { option_copied result ≡ slice_get (keys_of self.now.0) place }
+    {
+        let mut left = place;
+        for (name, _) in self.by_name.iter() {
+            if left == 0 {
+                return Some(name.as_str());
+            }
+            left -= 1;
+        }
+        None
+    }
 }
