@@ -102,7 +102,7 @@ fn expand_entries(alloc: Global, entries: &Entries<Tree>) -> Result<Entries<Tree
     requires { list_all (λ e. is_plain_entry true (e.0, (e.1, is_plain e.1))) entries.now.0 ≡ true }
     ensures { IfOk result (λ es. es.0 ≡ filter_map expanded_entry entries.now.0) }
 {
-    let mut expanded = Vec::new(alloc);
+    let mut expanded = Vec::with_capacity(alloc, entries.as_slice().len())?;
     for (name, value) in entries.as_slice() {
         if let Some(entry) = expand_entry(alloc, name, value)? {
             expanded.push(entry)?;
@@ -161,7 +161,7 @@ fn expand_scalar(
 fn value_object(alloc: Global, value: Tree) -> Result<Tree, NoMemory>
     ensures { IfOk result (λ t. t ≡ value_object value) }
 {
-    let mut entries = Vec::new(alloc);
+    let mut entries = Vec::with_capacity(alloc, 1)?;
     entries.push((Text::from_str(alloc, "@value")?, value))?;
     Ok(Tree::Map(Entries::from_sorted(entries)))
 }
@@ -173,7 +173,7 @@ fn as_list(alloc: Global, value: Tree) -> Result<Tree, NoMemory>
     match value {
         Tree::List(items) => Ok(Tree::List(items)),
         single => {
-            let mut items = Vec::new(alloc);
+            let mut items = Vec::with_capacity(alloc, 1)?;
             items.push(single)?;
             Ok(Tree::List(Items::from_vec(items)))
         }
