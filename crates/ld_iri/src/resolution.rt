@@ -1,6 +1,5 @@
-ghost use Rattle.std.specs.Prelude.{◌≡◌, ◌++◌, List, ℕ, IsTrue, IfOk, OnOk, codes, string_bytes, option_copied};
+ghost use Rattle.std.specs.Prelude.{◌≡◌, ◌++◌, List, ℕ, IfOk, OnOk, codes, string_bytes, option_copied};
 ghost use Rattle.ld_iri.specs.Components.{marked, ended, recomposed};
-ghost use Rattle.ld_iri.specs.Words.{is_iri};
 ghost use Rattle.ld_iri.specs.Resolution.{folders, folder_segments, merged, target, resolved};
 ghost use Rattle.ld_iri.specs.View.{components};
 
@@ -106,10 +105,9 @@ fn push_parts(text: &mut String, parts: &Parts<'_>) -> Result<(), NoMemory>
 }
 
 /// What the reference means under the base: RFC 3986, section 5.2, in its strict form, with
-/// `remove_dot_segments` and no further normalisation. The base is of IRI form. The time is linear in
-/// the bytes of both.
+/// `remove_dot_segments` and no further normalisation. It answers for any base; where the base is of IRI
+/// form, what comes is (`laws::resolved_is_iri`). The time is linear in the bytes of both.
 pub fn resolve(alloc: Global, base: &str, reference: &str) -> Result<String, NoMemory>
-    requires { IsTrue (is_iri base.now) }
     ensures { IfOk result (λ text. string_bytes text ≡ resolved base.now reference.now) }
 {
     let capacity = base.len().saturating_add(reference.len()).saturating_add(1);
