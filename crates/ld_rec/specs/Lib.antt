@@ -1,0 +1,13 @@
+pub mod Documents
+pub mod Outcome
+pub mod Words
+pub mod Records
+pub mod Iris
+pub mod Terms
+pub mod Processing
+pub mod Promises
+pub mod Kinds
+pub mod Places
+pub mod Values
+pub mod Expansion
+pub mod Form
