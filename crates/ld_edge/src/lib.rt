@@ -31,6 +31,3 @@ pub use plan::FaultPlan;
 pub use status::Status;
 pub use std_sink::StdSink;
 pub use std_source::StdSource;
-
-#[cfg(test)]
-mod tests;

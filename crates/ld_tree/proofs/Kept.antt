@@ -1,6 +1,6 @@
 -- What holds of each kind of value, and of what is made of such values, holds of each tree that bytes read as.
-use Rattle.std.proofs.Common.{◌≡◌, ◌∙◌, refl, sym, subst, Bool, true, false, ℕ, zero, suc, ◌+◌, ◌^◌, ◌≤◌, List, [], ◌∷◌, map, arith, lt-ltb}
-use Rattle.std.specs.Prelude.{ℤ, pos, neg_ℤ}
+use Rattle.std.proofs.Common.{◌≡◌, ◌∙◌, refl, sym, subst, Bool, true, false, ℕ, zero, suc, ◌+◌, ◌^◌, ◌≤◌, List, [], ◌∷◌, map, cond, arith, lt-ltb, leb-true}
+use Rattle.std.specs.Prelude.{Result, Ok, Err}
 use Rattle.std.specs.Str.{IsUtf8, is_utf8}
 use Rattle.std.proofs.lemmas.Str.{is_utf8-from_IsUtf8}
 use Rattle.std.specs.declared.cmp.Ordering.{Ordering}
@@ -12,7 +12,10 @@ use Rattle.std.specs.BTreeMap.{insert_entry}
 use Rattle.ld_tree.specs.Names.{Sorted, name_cmp}
 use Rattle.ld_tree.specs.Trees.{depth_of, depth_step, greatest}
 use Rattle.ld_tree.specs.Bounds.{fits, fits_step, in_64_bits, spelled, spelled_step, all_true, all_utf8}
-use Rattle.ld_tree.specs.Reading.{IsNumber, natural, negative, value_of, put_all, IsValue, a_null, a_true, a_false, a_number, a_text, a_list, a_map, IsItems, no_items, items, IsMoreItems, end_items, more_items, IsMember, member, IsMembers, no_members, members, IsMoreMembers, end_members, more_members, reads}
+use Rattle.ld_tree.specs.Reading.{IsNumber, put_all, IsValue, a_null, a_true, a_false, a_number, a_text, a_list, a_map, IsItems, no_items, items, IsMoreItems, end_items, more_items, IsMember, member, IsMembers, no_members, members, IsMoreMembers, end_members, more_members, reads}
+use Rattle.ld_tree.specs.Numbers.{Decimal, exact, num_of, whole_num, is_whole, is_one_one, is_held, size, signed}
+use Rattle.ld_tree.specs.declared.number.NumFault.TheVariants.{Fraction, TooLarge}
+use Rattle.ld_tree.specs.declared.tree.Num.{Num}
 use Rattle.ld_tree.specs.declared.tree.Num.TheVariants as n
 use Rattle.ld_tree.specs.declared.tree.Tree as t
 use Rattle.ld_tree.specs.declared.tree.Tree.{Tree}
@@ -29,7 +32,7 @@ EntryIs P e = IsUtf8 e.0 × P e.1
 pub record IsKept (P : ℕ → Tree → Type 0) : Type 0 where
   pub of_null : (d : ℕ) → P d t.Null
   pub of_bool : (d : ℕ) (b : Bool) → P d (t.Bool b)
-  pub of_number : (d : ℕ) {b r : List ℕ} {v : ℤ} → IsNumber b v r → P d (t.Num (n.Whole v))
+  pub of_number : (d : ℕ) {b r : List ℕ} {v : Num} → IsNumber b v r → P d (t.Num v)
   pub of_text : (d : ℕ) (x : List ℕ) → IsUtf8 x → P d (t.Text x)
   pub of_list : (d : ℕ) (ts : List Tree) → AllByRecursion (P d) ts → P (suc d) (t.List ts)
   pub of_map : (d : ℕ) (es : Sorted Tree) → AllByRecursion (EntryIs (P d)) es.0 → P (suc d) (t.Map es)
@@ -82,13 +85,37 @@ module _ (P : ℕ → Tree → Type 0) (k : IsKept P) where
   read_kept bytes x (r, h, e) = value_kept h
 
 -- each whole number has 64 bits
-number_fits : {b r : List ℕ} {v : ℤ} → IsNumber b v r → in_64_bits v ≡ true
-number_fits (natural ds e int ends lt) = lt-ltb (value_of ds) (2 ^ 63) lt
-number_fits (negative ds e int ends le) = negated (value_of ds) le
+ok_is : {A E : Type 0} (x y : A) → ◌≡◌ {A = Result A E} (Ok x) (Ok y) → x ≡ y
+ok_is x y e = cc
+
+err_ok : {A E : Type 0} (e : E) (x : A) → ◌≡◌ {A = Result A E} (Err e) (Ok x) → ⊥
+err_ok e x is = cc
+
+abbrev Fits : Num → Type 0
+Fits v = fits_step (Tree-F.Num v) ≡ true
+
+signed_fits : (negative : Bool) (k : ℕ) → is_held negative k ≡ true → in_64_bits (signed negative k) ≡ true
+signed_fits false k h = h
+signed_fits true zero h = refl
+signed_fits true (suc k) h = let le = leb-true (suc k) (2 ^ 63) h in lt-ltb k (2 ^ 63) (omega (arith, le))
+
+whole_fits : (negative : Bool) (k : ℕ) (v : Num) → whole_num negative k ≡ Ok v → Fits v
+whole_fits negative k v e = go (is_held negative k) refl e
   where
-    negated : (v : ℕ) → v ≤ 2 ^ 63 → in_64_bits (neg_ℤ (pos v)) ≡ true
-    negated zero le = refl
-    negated (suc v) le = lt-ltb v (2 ^ 63) (omega arith)
+    go : (h : Bool) → is_held negative k ≡ h → cond h (Ok (n.Whole (signed negative k))) (Err TooLarge) ≡ Ok v → Fits v
+    go true h e = subst Fits (ok_is (n.Whole (signed negative k)) v e) (signed_fits negative k h)
+    go false h e = absurd (err_ok TooLarge v e)
+
+num_fits : (x : Decimal) (v : Num) → num_of x ≡ Ok v → Fits v
+num_fits x v e = go (is_whole x) (is_one_one x) e
+  where
+    go : (a b : Bool) → cond a (whole_num x.negative (size x)) (cond b (Ok n.OneOne) (Err Fraction)) ≡ Ok v → Fits v
+    go true b e = whole_fits x.negative (size x) v e
+    go false true e = subst Fits (ok_is n.OneOne v e) refl
+    go false false e = absurd (err_ok Fraction v e)
+
+number_fits : {b r : List ℕ} {v : Num} → IsNumber b v r → Fits v
+number_fits {v = v} h = num_fits (exact h.token) v h.value
 
 all_are : (f : Tree → Bool) (ts : List Tree) → AllByRecursion (λ x. f x ≡ true) ts → all_true (map f ts) ≡ true
 all_are f [] h = refl
@@ -106,7 +133,7 @@ fits_kept : IsKept (λ d x. fits x ≡ true)
 fits_kept = record {
   of_null = λ d. rw rolled_null (fold-roll-Tree Bool fits_step Tree-F.Null);
   of_bool = λ d b. rw (rolled_bool b) (fold-roll-Tree Bool fits_step (Tree-F.Bool b));
-  of_number = λ d {b} {r} {v} h. rw (rolled_num (n.Whole v)) (fold-roll-Tree Bool fits_step (Tree-F.Num (n.Whole v)) ∙ number_fits h);
+  of_number = λ d {b} {r} {v} h. rw (rolled_num v) (fold-roll-Tree Bool fits_step (Tree-F.Num v) ∙ number_fits h);
   of_text = λ d x h. rw (rolled_text x) (fold-roll-Tree Bool fits_step (Tree-F.Text x));
   of_list = λ d ts h. rw (rolled_list ts) (fold-roll-Tree Bool fits_step (Tree-F.List ts) ∙ all_are fits ts h);
   of_map = λ d es h. rw (rolled_map es) (fold-roll-Tree Bool fits_step (Tree-F.Map es) ∙ values_are fits es.0 h);
@@ -120,7 +147,7 @@ spelled_kept : IsKept (λ d x. spelled x ≡ true)
 spelled_kept = record {
   of_null = λ d. rw rolled_null (fold-roll-Tree Bool spelled_step Tree-F.Null);
   of_bool = λ d b. rw (rolled_bool b) (fold-roll-Tree Bool spelled_step (Tree-F.Bool b));
-  of_number = λ d {b} {r} {v} h. rw (rolled_num (n.Whole v)) (fold-roll-Tree Bool spelled_step (Tree-F.Num (n.Whole v)));
+  of_number = λ d {b} {r} {v} h. rw (rolled_num v) (fold-roll-Tree Bool spelled_step (Tree-F.Num v));
   of_text = λ d x h. rw (rolled_text x) (fold-roll-Tree Bool spelled_step (Tree-F.Text x) ∙ is_utf8-from_IsUtf8 x h);
   of_list = λ d ts h. rw (rolled_list ts) (fold-roll-Tree Bool spelled_step (Tree-F.List ts) ∙ all_are spelled ts h);
   of_map = λ d es h. rw (rolled_map es) (fold-roll-Tree Bool spelled_step (Tree-F.Map es) ∙ all_so (all_utf8 (keys_of (map (λ e. (e.0, spelled e.1)) es.0))) (all_true (values_of (map (λ e. (e.0, spelled e.1)) es.0))) (names_are spelled es.0 h) (values_are spelled es.0 h));
@@ -148,7 +175,7 @@ depth_kept : IsKept (λ d x. depth_of x ≤ d)
 depth_kept = record {
   of_null = λ d. rw rolled_null (flat d _ (fold-roll-Tree ℕ depth_step Tree-F.Null));
   of_bool = λ d b. rw (rolled_bool b) (flat d _ (fold-roll-Tree ℕ depth_step (Tree-F.Bool b)));
-  of_number = λ d {b} {r} {v} h. rw (rolled_num (n.Whole v)) (flat d _ (fold-roll-Tree ℕ depth_step (Tree-F.Num (n.Whole v))));
+  of_number = λ d {b} {r} {v} h. rw (rolled_num v) (flat d _ (fold-roll-Tree ℕ depth_step (Tree-F.Num v)));
   of_text = λ d x h. rw (rolled_text x) (flat d _ (fold-roll-Tree ℕ depth_step (Tree-F.Text x)));
   of_list = λ d ts h. rw (rolled_list ts) (under d (greatest (map depth_of ts)) _ (fold-roll-Tree ℕ depth_step (Tree-F.List ts)) (greatest_under d ts h));
   of_map = λ d es h. rw (rolled_map es) (under d (greatest (values_of (map (λ e. (e.0, depth_of e.1)) es.0))) _ (fold-roll-Tree ℕ depth_step (Tree-F.Map es)) (greatest_value d es.0 h));

@@ -1,10 +1,11 @@
 -- Bytes read in at most one way.
-use Rattle.std.proofs.Common.{◌≡◌, ◌∙◌, refl, sym, ap, ap₂, subst, Bool, true, false, not, true≢false, ◌&&◌, ◌||◌, ℕ, suc, List, [], ◌∷◌, ◌++◌, Some, None, nat_lt, eq-eqb, nat_eq}
-use Rattle.std.specs.Prelude.{ℤ, pos, neg_ℤ}
+use Rattle.std.proofs.Common.{◌≡◌, ◌∙◌, refl, sym, ap, ap₂, subst, Bool, true, false, not, true≢false, ◌&&◌, ◌||◌, ℕ, suc, List, [], ◌∷◌, ◌++◌, Some, None, eq-eqb, eqb-true, nat_eq}
+use Rattle.std.specs.Prelude.{Option, Result, Ok}
 use Rattle.std.specs.Char.{encode_utf8}
 use Rattle.ld_tree.specs.Names.{Sorted, same_sorted}
-use Rattle.ld_tree.specs.Reading.{IsChar, unescaped, letter, unit, pair, IsChars, closing, char, IsString, is_unescaped, escaped, hex4, is_high_half, is_low_half, of_pair, is_digit, are_digits, is_int, goes_on, ends_number, value_of, IsNumber, natural, negative, past_space, put_all, IsValue, a_null, a_true, a_false, a_number, a_text, a_list, a_map, IsItems, no_items, items, IsMoreItems, end_items, more_items, IsMember, member, IsMembers, no_members, members, IsMoreMembers, end_members, more_members, reads}
-use Rattle.ld_tree.specs.declared.tree.Num.TheVariants as n
+use Rattle.ld_tree.specs.Reading.{IsChar, unescaped, letter, unit, pair, IsChars, closing, char, IsString, is_unescaped, escaped, hex4, is_high_half, is_low_half, of_pair, IsNumber, past_space, put_all, IsValue, a_null, a_true, a_false, a_number, a_text, a_list, a_map, IsItems, no_items, items, IsMoreItems, end_items, more_items, IsMember, member, IsMembers, no_members, members, IsMoreMembers, end_members, more_members, reads}
+use Rattle.ld_tree.specs.Numbers.{Token, is_digit, digits_at, number_at, exact, num_of}
+use Rattle.ld_tree.specs.declared.tree.Num.{Num}
 use Rattle.ld_tree.specs.declared.tree.Tree as t
 use Rattle.ld_tree.specs.declared.tree.Tree.{Tree}
 
@@ -90,43 +91,39 @@ pub string_once : {b x r : List ℕ} → IsString b x r → (y s : List ℕ) →
 string_once (h, _) y s (w, _) = chars_once h y s w
 
 -- numbers
-not_digit : (b : ℕ) → is_digit b ≡ true → not (goes_on b) ≡ true → ⊥
-not_digit b h w = true≢false (sym w ∙ ap (λ d. not (d || (nat_eq b 46 || (nat_eq b 69 || nat_eq b 101)))) h)
+some_is : {A : Type 0} (x y : A) → ◌≡◌ {A = Option A} (Some x) (Some y) → x ≡ y
+some_is x y e = cc
 
-pub digits_once : (ds es r s : List ℕ) → are_digits ds ≡ true → are_digits es ≡ true → ends_number r ≡ true → ends_number s ≡ true → ds ++ r ≡ es ++ s → (ds ≡ es) × (r ≡ s)
-digits_once [] [] r s h w p q e = (refl, e)
-digits_once [] (x ∷ es) r s h w p q e = absurd (not_digit x (both _ _ w).0 (subst (λ v. ends_number v ≡ true) e p))
-digits_once (x ∷ ds) [] r s h w p q e = absurd (not_digit x (both _ _ h).0 (subst (λ v. ends_number v ≡ true) (sym e) q))
-digits_once (x ∷ ds) (y ∷ es) r s h w p q e =
-    let rest = digits_once ds es r s (both _ _ h).1 (both _ _ w).1 p q (tail_is x y (ds ++ r) (es ++ s) e) in
-    (ap₂ (λ u v. u ∷ v) (head_is x y (ds ++ r) (es ++ s) e) rest.0, rest.1)
+ok_is : {A E : Type 0} (x y : A) → ◌≡◌ {A = Result A E} (Ok x) (Ok y) → x ≡ y
+ok_is x y e = cc
 
-pub int_digits : (ds : List ℕ) → is_int ds ≡ true → are_digits ds ≡ true
-int_digits [] h = cc
-int_digits (b ∷ []) h = rw h refl
-int_digits (b ∷ c ∷ bs) h =
-    let one = both (is_digit b && nat_lt 48 b) (are_digits (c ∷ bs)) h in
-    all_so (is_digit b) (are_digits (c ∷ bs)) (both (is_digit b) (nat_lt 48 b) one.0).0 one.1
+no_digits : (x : ℕ) (b : List ℕ) → is_digit x ≡ false → digits_at (x ∷ b) ≡ None
+no_digits x b e = rw e refl
 
--- digits begin with a digit
-pub int_head : (x : ℕ) (b ds r : List ℕ) → is_int ds ≡ true → x ∷ b ≡ ds ++ r → is_digit x ≡ true
-int_head x b [] r h e = absurd (true≢false (sym h))
-int_head x b (d ∷ ds) r h e = ap is_digit (head_is x d b (ds ++ r) e) ∙ (both _ _ (int_digits (d ∷ ds) h)).0
+no_zero : (x : ℕ) → is_digit x ≡ false → nat_eq x 48 ≡ false
+no_zero x e = go (nat_eq x 48) refl
+  where
+    go : (v : Bool) → nat_eq x 48 ≡ v → nat_eq x 48 ≡ false
+    go false is = is
+    go true is = absurd (true≢false (sym (ap is_digit (eqb-true x 48 is)) ∙ e))
 
 -- a number begins with a digit or a minus sign
-pub number_head : {b r : List ℕ} {v : ℤ} (x : ℕ) → IsNumber (x ∷ b) v r → is_digit x || nat_eq x 45 ≡ false → ⊥
-number_head {b} {r} x (natural ds e int ends lt) other = true≢false (sym (int_head x b ds r int e) ∙ (neither (is_digit x) (nat_eq x 45) other).0)
-number_head x (negative ds e int ends le) other = true≢false other
+no_number : (x : ℕ) (b : List ℕ) → is_digit x || nat_eq x 45 ≡ false → number_at (x ∷ b) ≡ None
+unfolding number_at
+no_number x b other =
+    let parts = neither (is_digit x) (nat_eq x 45) other in
+    rw (parts.1, no_zero x parts.0, no_digits x b parts.0) refl
 
-pub number_once : {b r : List ℕ} {v : ℤ} → IsNumber b v r → (w : ℤ) (s : List ℕ) → IsNumber b w s → (v ≡ w) × (r ≡ s)
-number_once {r = r} (natural ds e int ends lt) w s (natural es e' int' ends' lt') =
-    let one = digits_once ds es r s (int_digits ds int) (int_digits es int') ends ends' (sym e ∙ e') in
-    (ap (λ ds. pos (value_of ds)) one.0, one.1)
-number_once {r = r} (negative ds e int ends le) w s (negative es e' int' ends' le') =
-    let one = digits_once ds es r s (int_digits ds int) (int_digits es int') ends ends' (sym e ∙ e') in
-    (ap (λ ds. neg_ℤ (pos (value_of ds))) one.0, one.1)
-number_once {r = r} (natural ds e int ends lt) w s (negative es {b = b} e' int' ends' le') = absurd (true≢false (sym (int_head 45 b ds r int e)))
-number_once (negative ds {b = b} e int ends le) w s (natural es e' int' ends' lt') = absurd (true≢false (sym (int_head 45 b es s int' e')))
+pub number_head : {b r : List ℕ} {v : Num} (x : ℕ) → IsNumber (x ∷ b) v r → is_digit x || nat_eq x 45 ≡ false → ⊥
+number_head {b} {r} x h other = none_is (h.token, r) (sym (no_number x b other) ∙ h.front)
+  where
+    none_is : (y : Token × List ℕ) → ◌≡◌ {A = Option (Token × List ℕ)} None (Some y) → ⊥
+    none_is y e = cc
+
+pub number_once : {b r : List ℕ} {v : Num} → IsNumber b v r → (w : Num) (s : List ℕ) → IsNumber b w s → (v ≡ w) × (r ≡ s)
+number_once {r = r} {v = v} h w s k =
+    let same : ◌≡◌ {A = Token × List ℕ} (h.token, r) (k.token, s) = some_is (h.token, r) (k.token, s) (sym h.front ∙ k.front) in
+    (ok_is v w (sym h.value ∙ ap (λ (p : Token × List ℕ). num_of (exact p.0)) same ∙ k.value), ap (λ (p : Token × List ℕ). p.1) same)
 
 -- The first byte says what kind of value it is.
 pub at_null : {d : ℕ} {b r : List ℕ} {x : Tree} → IsValue d (110 ∷ 117 ∷ 108 ∷ 108 ∷ b) x r → (x ≡ t.Null) × (b ≡ r)
@@ -153,7 +150,7 @@ pub at_map : {d : ℕ} {b r : List ℕ} {x : Tree} → IsValue (suc d) (123 ∷ 
 at_map (a_number h) = absurd (number_head 123 h refl)
 at_map (a_map ms es h is) = (ms, es, refl, h, is)
 
-pub at_number : {d : ℕ} {b q : List ℕ} {x : Tree} → IsValue d b x q → (v : ℤ) (r : List ℕ) → IsNumber b v r → (w : ℤ) × (x ≡ t.Num (n.Whole w)) × IsNumber b w q
+pub at_number : {d : ℕ} {b q : List ℕ} {x : Tree} → IsValue d b x q → (v : Num) (r : List ℕ) → IsNumber b v r → (w : Num) × (x ≡ t.Num w) × IsNumber b w q
 at_number a_null v r h = absurd (number_head 110 h refl)
 at_number a_true v r h = absurd (number_head 116 h refl)
 at_number a_false v r h = absurd (number_head 102 h refl)
@@ -189,7 +186,7 @@ mutual
   value_once (a_number {r = r} {v = v} h) y q w =
       let (x, is, at) = at_number w v r h in
       let one = number_once h x q at in
-      (ap (λ v. t.Num (n.Whole v)) one.0 ∙ sym is, one.1)
+      (ap (λ v. t.Num v) one.0 ∙ sym is, one.1)
   value_once (a_text h) y q w =
       let (x, is, at) = at_text w in
       let one = string_once h x q at in

@@ -1,15 +1,17 @@
 -- What reads is UTF-8.
-use Rattle.std.proofs.Common.{◌≡◌, ◌∙◌, refl, sym, subst, Bool, true, false, cond, true≢false, ◌&&◌, ◌||◌, inl, inr, ℕ, ◌+◌, ◌-◌, ◌*◌, ◌/◌, ◌%◌, ◌<◌, ◌≤◌, List, [], ◌∷◌, ◌++◌, length, get_or, Option, Some, None, nat_lt, nat_eq, eqb-true, ltb-true, lt-ltb, le-ltb, arith, append_assoc, append-nil, length-append}
+use Rattle.std.proofs.Common.{◌≡◌, ◌∙◌, refl, sym, ap, subst, suc, take, drop, Bool, true, false, cond, true≢false, ◌&&◌, ◌||◌, inl, inr, ℕ, ◌+◌, ◌-◌, ◌*◌, ◌/◌, ◌%◌, ◌<◌, ◌≤◌, List, [], ◌∷◌, ◌++◌, length, get_or, Option, Some, None, nat_lt, nat_eq, eqb-true, ltb-true, lt-ltb, le-ltb, arith, append_assoc, append-nil, length-append}
 use Rattle.std.proofs.lemmas.Bool.{cases_lt}
-use Rattle.std.specs.Prelude.{ℤ}
+use Rattle.std.specs.List.{prefix_len}
 use Rattle.std.specs.Str.{IsUtf8, IsCharBoundary}
 use Rattle.std.specs.Char.{IsScalar}
 use Rattle.std.proofs.Math.Utf8.{encode}
 use Rattle.std.proofs.Math.Seq.{take-append_seam, drop-append_seam}
 use Rattle.std.proofs.lemmas.Str.{IsUtf8-append, IsUtf8-nil, IsUtf8-encode, IsUtf8-take, IsUtf8-drop, IsUtf8-past_char, encode_ascii}
-use Rattle.ld_tree.specs.Reading.{is_white, past_space, past_mark, escaped, hex, more_hex, hex4, is_high_half, is_low_half, of_pair, unescaped, letter, unit, pair, IsChars, closing, char, IsString, is_digit, are_digits, IsNumber, natural, negative, IsValue, a_null, a_true, a_false, a_number, a_text, a_list, a_map, IsItems, no_items, items, IsMoreItems, end_items, more_items, IsMember, member, IsMembers, no_members, members, IsMoreMembers, end_members, more_members, reads}
+use Rattle.ld_tree.specs.Reading.{is_white, past_space, past_mark, escaped, hex, more_hex, hex4, is_high_half, is_low_half, of_pair, unescaped, letter, unit, pair, IsChars, closing, char, IsString, IsNumber, IsValue, a_null, a_true, a_false, a_number, a_text, a_list, a_map, IsItems, no_items, items, IsMoreItems, end_items, more_items, IsMember, member, IsMembers, no_members, members, IsMoreMembers, end_members, more_members, reads}
+use Rattle.ld_tree.specs.Numbers.{Token, Exp, is_digit, digits_at, int_at, frac_at, signed_digits, power_at, exp_at, ends_number, ◌>>=◌, unsigned_at, number_at}
+use Rattle.ld_tree.specs.declared.tree.Num.{Num}
 use Rattle.ld_tree.specs.declared.tree.Tree.{Tree}
-use Rattle.ld_tree.proofs.Once.{both, all_so, neither, int_digits}
+use Rattle.ld_tree.proofs.Once.{both, all_so, neither}
 
 pub ascii_first : (x : ℕ) (r : List ℕ) → x < 128 → IsUtf8 r → IsUtf8 (x ∷ r)
 ascii_first x r lt h =
@@ -171,15 +173,104 @@ space_utf8 (x ∷ b) h = go (is_white x) refl (space_utf8 b) h
 mark_utf8 : (b : List ℕ) (x : ℕ) (r : List ℕ) → x < 128 → past_space b ≡ x ∷ r → IsUtf8 r → IsUtf8 b
 mark_utf8 b x r lt e h = space_utf8 b (subst IsUtf8 (sym e) (ascii_first x r lt h))
 
-digits_utf8 : (ds r : List ℕ) → are_digits ds ≡ true → IsUtf8 r → IsUtf8 (ds ++ r)
-digits_utf8 [] r h w = w
-digits_utf8 (x ∷ ds) r h w =
-    let parts = both (is_digit x) (are_digits ds) h in
-    ascii_first x (ds ++ r) (omega (arith, ltb-true x 58 (both (nat_lt 47 x) (nat_lt x 58) parts.0).1)) (digits_utf8 ds r parts.1 w)
+-- numbers are ASCII
+low_digit : (x : ℕ) → is_digit x ≡ true → x < 128
+low_digit x e = let high = ltb-true x 58 (both (nat_lt 47 x) (nat_lt x 58) e).1 in omega (arith, high)
 
-number_utf8 : {b r : List ℕ} {v : ℤ} → IsNumber b v r → IsUtf8 r → IsUtf8 b
-number_utf8 {r = r} (natural ds e int ends lt) w = subst IsUtf8 (sym e) (digits_utf8 ds r (int_digits ds int) w)
-number_utf8 {r = r} (negative ds {b = b} e int ends le) w = ascii_first 45 b (omega arith) (subst IsUtf8 (sym e) (digits_utf8 ds r (int_digits ds int) w))
+run_utf8 : (b : List ℕ) → IsUtf8 (drop (prefix_len is_digit b) b) → IsUtf8 b
+run_utf8 [] h = h
+run_utf8 (x ∷ b) h = go (is_digit x) refl (run_utf8 b) h
+  where
+    go : (v : Bool) → is_digit x ≡ v → (IsUtf8 (drop (prefix_len is_digit b) b) → IsUtf8 b) → IsUtf8 (drop (cond v (1 + prefix_len is_digit b) 0) (x ∷ b)) → IsUtf8 (x ∷ b)
+    go true e again h =
+        let more : 1 + prefix_len is_digit b ≡ suc (prefix_len is_digit b) = omega arith in
+        ascii_first x b (low_digit x e) (again (subst (λ n. IsUtf8 (drop n (x ∷ b))) more h))
+    go false e again h = h
+
+module _ {A : Type 0} where
+  some_rest : (x y : A) (r s : List ℕ) → ◌≡◌ {A = Option (A × List ℕ)} (Some (x, r)) (Some (y, s)) → r ≡ s
+  some_rest x y r s e = let pairs : ◌≡◌ {A = A × List ℕ} (x, r) (y, s) = cc in ap (λ (p : A × List ℕ). p.1) pairs
+
+  none_some : (y : A) → ◌≡◌ {A = Option A} None (Some y) → ⊥
+  none_some y e = cc
+
+digits_utf8 : (b ds r : List ℕ) → digits_at b ≡ Some (ds, r) → IsUtf8 r → IsUtf8 b
+digits_utf8 b ds r e h = go (nat_eq (prefix_len is_digit b) 0) e
+  where
+    go : (v : Bool) → cond {A = Option (List ℕ × List ℕ)} v None (Some (take (prefix_len is_digit b) b, drop (prefix_len is_digit b) b)) ≡ Some (ds, r) → IsUtf8 b
+    go true e = absurd (none_some (ds, r) e)
+    go false e = run_utf8 b (subst IsUtf8 (sym (some_rest _ ds _ r e)) h)
+
+int_utf8 : (b ds r : List ℕ) → int_at b ≡ Some (ds, r) → IsUtf8 r → IsUtf8 b
+int_utf8 [] ds r e h = absurd (none_some (ds, r) e)
+int_utf8 (x ∷ b) ds r e h = go (nat_eq x 48) refl e
+  where
+    go : (v : Bool) → nat_eq x 48 ≡ v → cond {A = Option (List ℕ × List ℕ)} v (Some (48 ∷ [], b)) (digits_at (x ∷ b)) ≡ Some (ds, r) → IsUtf8 (x ∷ b)
+    go true is e = let same = eqb-true x 48 is in ascii_first x b (omega (arith, same)) (subst IsUtf8 (sym (some_rest (48 ∷ []) ds b r e)) h)
+    go false is e = digits_utf8 (x ∷ b) ds r e h
+
+frac_utf8 : (b ds r : List ℕ) → frac_at b ≡ Some (ds, r) → IsUtf8 r → IsUtf8 b
+frac_utf8 [] ds r e h = subst IsUtf8 (sym (some_rest [] ds [] r e)) h
+frac_utf8 (x ∷ b) ds r e h = go (nat_eq x 46) refl e
+  where
+    go : (v : Bool) → nat_eq x 46 ≡ v → cond {A = Option (List ℕ × List ℕ)} v (digits_at b) (Some ([], x ∷ b)) ≡ Some (ds, r) → IsUtf8 (x ∷ b)
+    go true is e = let same = eqb-true x 46 is in ascii_first x b (omega (arith, same)) (digits_utf8 b ds r e h)
+    go false is e = subst IsUtf8 (sym (some_rest [] ds (x ∷ b) r e)) h
+
+signed_utf8 : (lowers : Bool) (b r : List ℕ) (x : Exp) → signed_digits lowers (digits_at b) ≡ Some (x, r) → IsUtf8 r → IsUtf8 b
+signed_utf8 lowers b r x e h = go (digits_at b) refl e
+  where
+    go : (o : Option (List ℕ × List ℕ)) → digits_at b ≡ o → signed_digits lowers o ≡ Some (x, r) → IsUtf8 b
+    go (Some (ds, s)) is e = digits_utf8 b ds s is (subst IsUtf8 (sym (some_rest (lowers, ds) x s r e)) h)
+    go None is e = absurd (none_some (x, r) e)
+
+power_utf8 : (b r : List ℕ) (x : Exp) → power_at b ≡ Some (x, r) → IsUtf8 r → IsUtf8 b
+power_utf8 [] r x e h = absurd (none_some (x, r) e)
+power_utf8 (y ∷ b) r x e h = go (nat_eq y 45) (nat_eq y 43) refl refl e
+  where
+    go : (v w : Bool) → nat_eq y 45 ≡ v → nat_eq y 43 ≡ w
+        → cond v (signed_digits true (digits_at b)) (cond w (signed_digits false (digits_at b)) (signed_digits false (digits_at (y ∷ b)))) ≡ Some (x, r) → IsUtf8 (y ∷ b)
+    go true w is is' e = let same = eqb-true y 45 is in ascii_first y b (omega (arith, same)) (signed_utf8 true b r x e h)
+    go false true is is' e = let same = eqb-true y 43 is' in ascii_first y b (omega (arith, same)) (signed_utf8 false b r x e h)
+    go false false is is' e = signed_utf8 false (y ∷ b) r x e h
+
+exp_utf8 : (b r : List ℕ) (x : Exp) → exp_at b ≡ Some (x, r) → IsUtf8 r → IsUtf8 b
+exp_utf8 [] r x e h = subst IsUtf8 (sym (some_rest (false, []) x [] r e)) h
+exp_utf8 (y ∷ b) r x e h = go (nat_eq y 69) (nat_eq y 101) refl refl e
+  where
+    go : (v w : Bool) → nat_eq y 69 ≡ v → nat_eq y 101 ≡ w → cond {A = Option (Exp × List ℕ)} (v || w) (power_at b) (Some ((false, []), y ∷ b)) ≡ Some (x, r) → IsUtf8 (y ∷ b)
+    go true w is is' e = let same = eqb-true y 69 is in ascii_first y b (omega (arith, same)) (power_utf8 b r x e h)
+    go false true is is' e = let same = eqb-true y 101 is' in ascii_first y b (omega (arith, same)) (power_utf8 b r x e h)
+    go false false is is' e = subst IsUtf8 (sym (some_rest (false, []) x (y ∷ b) r e)) h
+
+-- what one step after another gives, the first gave
+bound : {A B : Type 0} (o : Option A) (f : A → Option B) (y : B) → ◌>>=◌ o f ≡ Some y → (x : A) × (o ≡ Some x) × (f x ≡ Some y)
+bound (Some x) f y e = (x, refl, e)
+bound None f y e = absurd (none_some y e)
+
+unsigned_utf8 : (negative : Bool) (b r : List ℕ) (t : Token) → unsigned_at negative b ≡ Some (t, r) → IsUtf8 r → IsUtf8 b
+unsigned_utf8 negative b r t e h =
+    let int = bound (int_at b) _ (t, r) e in
+    let frac = bound (frac_at int.0.1) _ (t, r) int.2 in
+    let exp = bound (exp_at frac.0.1) _ (t, r) frac.2 in
+    let end : exp.0.1 ≡ r = ended (ends_number exp.0.1) exp.0.1 _ exp.2 in
+    int_utf8 b int.0.0 int.0.1 int.1 (frac_utf8 int.0.1 frac.0.0 frac.0.1 frac.1 (exp_utf8 frac.0.1 exp.0.1 exp.0.0 exp.1 (subst IsUtf8 (sym end) h)))
+  where
+    ended : (v : Bool) (s : List ℕ) (u : Token) → cond {A = Option (Token × List ℕ)} v (Some (u, s)) None ≡ Some (t, r) → s ≡ r
+    ended true s u e = some_rest u t s r e
+    ended false s u e = absurd (none_some (t, r) e)
+
+number_at_utf8 : (b r : List ℕ) (t : Token) → number_at b ≡ Some (t, r) → IsUtf8 r → IsUtf8 b
+unfolding number_at
+number_at_utf8 [] r t e h = absurd (none_some (t, r) e)
+number_at_utf8 (x ∷ b) r t e h = go (nat_eq x 45) refl e
+  where
+    go : (v : Bool) → nat_eq x 45 ≡ v → cond v (unsigned_at true b) (unsigned_at false (x ∷ b)) ≡ Some (t, r) → IsUtf8 (x ∷ b)
+    go true same e = let is = eqb-true x 45 same in ascii_first x b (omega (arith, is)) (unsigned_utf8 true b r t e h)
+    go false same e = unsigned_utf8 false (x ∷ b) r t e h
+
+number_utf8 : {b r : List ℕ} {v : Num} → IsNumber b v r → IsUtf8 r → IsUtf8 b
+number_utf8 {b} {r} h = number_at_utf8 b r h.token h.front
 
 mutual
   value_utf8 : {d : ℕ} {b r : List ℕ} {x : Tree} → IsValue d b x r → IsUtf8 r → IsUtf8 b

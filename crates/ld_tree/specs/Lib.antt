@@ -3,6 +3,7 @@ pub mod CompactText
 pub mod InOrder
 pub mod Maps
 pub mod Names
+pub mod Numbers
 pub mod Reading
 pub mod Recursion
 pub mod Texts

@@ -1,10 +1,11 @@
 -- JSON texts (RFC 8259) as rules: what stands at the front of some bytes, and the bytes after it.
-use Rattle.std.specs.Prelude.{◌≡◌, ℕ, suc, ◌+◌, ◌-◌, ◌*◌, ◌^◌, ◌<◌, ◌≤◌, ℤ, pos, neg_ℤ, Bool, true, false, not, ◌&&◌, ◌||◌, ◌==◌, nat_lt, cond, List, [], ◌∷◌, ◌++◌, Option, Some, None}
+use Rattle.std.specs.Prelude.{◌≡◌, ℕ, suc, ◌+◌, ◌-◌, ◌*◌, Bool, true, false, not, ◌&&◌, ◌||◌, ◌==◌, nat_lt, cond, List, [], ◌∷◌, ◌++◌, Option, Some, None, Ok}
 use Rattle.std.specs.Str.{IsUtf8}
 use Rattle.std.specs.Char.{encode_utf8}
 use Rattle.std.specs.BTreeMap.{insert_entry}
 use Rattle.ld_tree.specs.Names.{Sorted, name_cmp}
-use Rattle.ld_tree.specs.declared.tree.Num.TheVariants as n
+use Rattle.ld_tree.specs.Numbers.{Token, number_at, exact, num_of}
+use Rattle.ld_tree.specs.declared.tree.Num.{Num}
 use Rattle.ld_tree.specs.declared.tree.Tree as t
 use Rattle.ld_tree.specs.declared.tree.Tree.{Tree}
 
@@ -68,40 +69,11 @@ pub data IsChars : List ℕ → List ℕ → List ℕ → Type 0 where
 abbrev pub IsString : List ℕ → List ℕ → List ℕ → Type 0
 IsString bytes text rest = IsChars bytes text rest × IsUtf8 text
 
--- DIGIT
-abbrev pub is_digit : ℕ → Bool
-is_digit b = nat_lt 47 b && nat_lt b 58
-
-abbrev pub are_digits : List ℕ → Bool
-are_digits [] = true
-are_digits (b ∷ bs) = is_digit b && are_digits bs
-
--- int (section 6): 0, or digits of which the first is not 0
-abbrev pub is_int : List ℕ → Bool
-is_int [] = false
-is_int (b ∷ []) = is_digit b
-is_int (b ∷ c ∷ bs) = is_digit b && nat_lt 48 b && are_digits (c ∷ bs)
-
--- what the digits stand for after others that stand for v, and by themselves
-abbrev pub value_after : ℕ → List ℕ → ℕ
-value_after v [] = v
-value_after v (b ∷ bs) = value_after (10 * v + (b - 48)) bs
-
-abbrev pub value_of : List ℕ → ℕ
-value_of digits = value_after 0 digits
-
--- a number goes on with a digit, a decimal point or an exponent (section 6)
-abbrev pub goes_on : ℕ → Bool
-goes_on b = is_digit b || (b == 46 || (b == 69 || b == 101))
-
-abbrev pub ends_number : List ℕ → Bool
-ends_number [] = true
-ends_number (b ∷ bs) = not (goes_on b)
-
--- number (section 6), whole and of 64 bits; one with frac or exp is none
-pub data IsNumber : List ℕ → ℤ → List ℕ → Type 0 where
-  natural : (digits : List ℕ) {b r : List ℕ} → b ≡ digits ++ r → is_int digits ≡ true → ends_number r ≡ true → value_of digits < 2 ^ 63 → IsNumber b (pos (value_of digits)) r
-  negative : (digits : List ℕ) {b r : List ℕ} → b ≡ digits ++ r → is_int digits ≡ true → ends_number r ≡ true → value_of digits ≤ 2 ^ 63 → IsNumber (45 ∷ b) (neg_ℤ (pos (value_of digits))) r
+-- number (section 6), where its exact value is read as this one
+pub record IsNumber (bytes : List ℕ) (num : Num) (rest : List ℕ) : Type 0 where
+  pub token : Token
+  pub front : number_at bytes ≡ Some (token, rest)
+  pub value : num_of (exact token) ≡ Ok num
 
 -- the members by name; of those with one name the last (section 4)
 abbrev pub put_all : {X : Type 0} → List (List ℕ × X) → List (List ℕ × X) → List (List ℕ × X)
@@ -114,7 +86,7 @@ mutual
     a_null : {d : ℕ} {r : List ℕ} → IsValue d (110 ∷ 117 ∷ 108 ∷ 108 ∷ r) t.Null r
     a_true : {d : ℕ} {r : List ℕ} → IsValue d (116 ∷ 114 ∷ 117 ∷ 101 ∷ r) (t.Bool true) r
     a_false : {d : ℕ} {r : List ℕ} → IsValue d (102 ∷ 97 ∷ 108 ∷ 115 ∷ 101 ∷ r) (t.Bool false) r
-    a_number : {d : ℕ} {b r : List ℕ} {v : ℤ} → IsNumber b v r → IsValue d b (t.Num (n.Whole v)) r
+    a_number : {d : ℕ} {b r : List ℕ} {v : Num} → IsNumber b v r → IsValue d b (t.Num v) r
     a_text : {d : ℕ} {b text r : List ℕ} → IsString b text r → IsValue d (34 ∷ b) (t.Text text) r
     a_list : {d : ℕ} {b r : List ℕ} {ts : List Tree} → IsItems d b ts r → IsValue (suc d) (91 ∷ b) (t.List ts) r
     a_map : {d : ℕ} {b r : List ℕ} (ms : List (List ℕ × Tree)) (es : Sorted Tree) → IsMembers d b ms r → es.0 ≡ put_all [] ms → IsValue (suc d) (123 ∷ b) (t.Map es) r

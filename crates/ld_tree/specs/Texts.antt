@@ -1,7 +1,6 @@
 -- Entries by texts, read as entries by names.
 use Rattle.std.specs.Prelude.{ℕ, List, string_bytes, map}
 use Rattle.std.specs.declared.string.String.{String}
-use Rattle.ld_tree.specs.Names.{Sorted}
 
 -- each text as its bytes
 abbrev pub named : {A T : Type 0} → List (String A × T) → List (List ℕ × T)

@@ -19,6 +19,7 @@ mod entries;
 mod items;
 mod name_map;
 mod no_memory;
+mod number;
 mod plain;
 mod reading;
 mod text;
@@ -28,10 +29,8 @@ pub use entries::Entries;
 pub use items::{Items, Raw};
 pub use name_map::NameMap;
 pub use no_memory::NoMemory;
+pub use number::NumFault;
 pub use plain::plain_len;
 pub use reading::{reads_once, reads_utf8, reads_within};
 pub use text::{Iri, Text, Url};
 pub use tree::{Num, Tree};
-
-#[cfg(test)]
-mod tests;

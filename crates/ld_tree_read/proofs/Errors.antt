@@ -25,6 +25,14 @@ pub none_if : {T P Q : Type 0} (o : Option T) (v : T) → SomeIff o P v → (¬ 
 none_if None v h f = f h
 none_if (Some x) v h f = tt
 
+pub if_some : {T : Type 0} (o : Option T) {P Q : T → Type 0} → ((x : T) → P x → Q x) → IfSome o P → IfSome o Q
+if_some None f h = tt
+if_some (Some x) f h = f x h
+
+pub if_none : {T P Q : Type 0} (o : Option T) → (P → Q) → IfNone o P → IfNone o Q
+if_none None f h = f h
+if_none (Some x) f h = tt
+
 pub if_ok : {T E : Type 0} (r : Result T E) {P Q : T → Type 0} → ((x : T) → P x → Q x) → IfOk r P → IfOk r Q
 if_ok (Ok x) f h = f x h
 if_ok (Err e) f h = tt

@@ -1,5 +1,8 @@
 pub mod Words
 pub mod Numbers
+pub mod Powers
+pub mod Scalars
+pub mod Scaled
 pub mod Escapes
 pub mod Scan
 pub mod Errors

@@ -1,4 +1,5 @@
 pub mod Cursor
+pub mod Digits
 pub mod Outcome
 pub mod State
 pub mod Tokens

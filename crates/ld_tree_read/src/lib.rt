@@ -2,6 +2,7 @@
 #![tactic(auto)]
 
 mod cursor;
+mod decimal;
 mod escape;
 mod frame;
 mod members;
@@ -14,6 +15,3 @@ mod string;
 
 pub use parse::read_tree;
 pub use refusal::ReadRefusal;
-
-#[cfg(test)]
-mod tests;

@@ -1,10 +1,14 @@
-ghost use Rattle.std.specs.Prelude.{◌≡◌, ◌<◌, ◌≤◌, ◌^◌, ℤ, pos, neg_ℤ, List, ℕ, length, IfSome, IfNone, SomeIff, true, slice_index};
+ghost use Rattle.std.specs.Prelude.{◌≡◌, ◌+◌, ◌<◌, ◌≤◌, ℕ, List, [], length, IfSome, IfNone, Some, None, Bool};
 ghost use Rattle.std.specs.List.{prefix_len};
-ghost use Rattle.ld_tree.specs.Reading.{IsNumber, is_digit as digit, is_int as int, ends_number as number_ends, value_of as value_is, are_digits};
+ghost use Rattle.ld_tree.specs.Numbers.{is_digit as digit, digits_at, int_at, frac_at, power_at, exp_at, ends_number as ends, unsigned_at, number_at};
+ghost use Rattle.ld_tree.specs.Reading.{IsNumber};
+ghost use Rattle.ld_tree.specs.declared.tree.Num.{Num};
 ghost use Rattle.ld_tree_read.specs.Cursor.{left};
-ghost use Rattle.ld_tree_read.specs.Tokens.{IsInt};
+ghost use Rattle.ld_tree_read.specs.Digits.{AreDigits, IsSmall, token};
 
 use crate::cursor::Cursor;
+use crate::decimal::{Number, num_of};
+use ld_tree::Num;
 
 fn is_digit(byte: u8) -> bool
     ensures { result ≡ digit byte }
@@ -19,90 +23,140 @@ fn digits_len(bytes: &[u8]) -> usize
     bytes.iter().take_while(|b| is_digit(**b)).count()
 }
 
-/// Whether these digits are a whole number: there is one, and no 0 before others (RFC 8259 section 6).
-fn is_int(digits: &[u8]) -> bool
-    requires { are_digits digits.now ≡ true }
-    ensures { result ≡ int digits.now }
+/// The digits that are next: one at least.
+fn read_digits<'a>(cursor: &mut Cursor<'a>) -> Option<&'a [u8]>
+    ensures found { IfSome result (λ ds. digits_at (left cursor.old) ≡ Some (ds.now, left cursor.new)) }
+    ensures each { IfSome result (λ ds. AreDigits ds.now) }
+    ensures count { IfSome result (λ ds. cursor.new.at ≡ cursor.old.at + length ds.now) }
+    ensures shorter { IfSome result (λ _. length (left cursor.new) < length (left cursor.old)) }
+    ensures none { IfNone result (digits_at (left cursor.old) ≡ None) }
 {
-    match digits {
-        [] => false,
-        [_] => true,
-        [first, ..] => *first != b'0',
+    let rest = cursor.rest();
+    let count = digits_len(rest);
+    if count == 0 {
+        return None;
     }
+    cursor.advance(count);
+    Some(&rest[..count])
 }
 
-/// Whether a number may end before these bytes: they begin with no digit, point or exponent.
-fn ends_number(rest: &[u8]) -> bool
-    ensures { result ≡ number_ends rest.now }
+/// int (RFC 8259 section 6).
+fn read_int<'a>(cursor: &mut Cursor<'a>) -> Option<&'a [u8]>
+    ensures found { IfSome result (λ ds. int_at (left cursor.old) ≡ Some (ds.now, left cursor.new)) }
+    ensures each { IfSome result (λ ds. AreDigits ds.now) }
+    ensures count { IfSome result (λ ds. cursor.new.at ≡ cursor.old.at + length ds.now) }
+    ensures shorter { IfSome result (λ _. length (left cursor.new) < length (left cursor.old)) }
+    ensures none { IfNone result ((negative : Bool) → unsigned_at negative (left cursor.old) ≡ None) }
 {
-    match rest.first() {
-        Some(byte) => !(is_digit(*byte) || *byte == b'.' || *byte == b'E' || *byte == b'e'),
+    let rest = cursor.rest();
+    if cursor.eat(b'0') {
+        return Some(&rest[..1]);
+    }
+    read_digits(cursor)
+}
+
+/// The digits of frac (RFC 8259 section 6); none, where there is no frac.
+fn read_frac<'a>(cursor: &mut Cursor<'a>) -> Option<&'a [u8]>
+    ensures found { IfSome result (λ ds. frac_at (left cursor.old) ≡ Some (ds.now, left cursor.new)) }
+    ensures each { IfSome result (λ ds. AreDigits ds.now) }
+    ensures count { IfSome result (λ ds. cursor.old.at + length ds.now ≤ cursor.new.at) }
+    ensures shorter { IfSome result (λ _. length (left cursor.new) ≤ length (left cursor.old)) }
+    ensures none { IfNone result (frac_at (left cursor.old) ≡ None) }
+{
+    if !cursor.eat(b'.') {
+        return Some(&[]);
+    }
+    read_digits(cursor)
+}
+
+/// The minus of an exponent and its digits, behind its letter.
+fn read_power<'a>(cursor: &mut Cursor<'a>) -> Option<(bool, &'a [u8])>
+    ensures found { IfSome result (λ e. power_at (left cursor.old) ≡ Some ((e.0, e.1.now), left cursor.new)) }
+    ensures each { IfSome result (λ e. AreDigits e.1.now) }
+    ensures shorter { IfSome result (λ _. length (left cursor.new) < length (left cursor.old)) }
+    ensures none { IfNone result (power_at (left cursor.old) ≡ None) }
+{
+    if cursor.eat(b'-') {
+        return Some((true, read_digits(cursor)?));
+    }
+    if cursor.eat(b'+') {
+        return Some((false, read_digits(cursor)?));
+    }
+    Some((false, read_digits(cursor)?))
+}
+
+/// The minus of exp and its digits (RFC 8259 section 6); neither, where there is no exp.
+fn read_exp<'a>(cursor: &mut Cursor<'a>) -> Option<(bool, &'a [u8])>
+    ensures found { IfSome result (λ e. exp_at (left cursor.old) ≡ Some ((e.0, e.1.now), left cursor.new)) }
+    ensures each { IfSome result (λ e. AreDigits e.1.now) }
+    ensures shorter { IfSome result (λ _. length (left cursor.new) ≤ length (left cursor.old)) }
+    ensures none { IfNone result (exp_at (left cursor.old) ≡ None) }
+{
+    if cursor.eat(b'e') || cursor.eat(b'E') {
+        return read_power(cursor);
+    }
+    Some((false, &[]))
+}
+
+/// Whether a number may end here.
+fn ends_number(cursor: &Cursor<'_>) -> bool
+    ensures { result ≡ ends (left cursor.now) }
+{
+    match cursor.peek() {
+        Some(byte) => !(is_digit(byte)
+            || byte == b'.'
+            || byte == b'E'
+            || byte == b'e'
+            || byte == b'+'
+            || byte == b'-'),
         None => true,
     }
 }
 
-/// What the digits stand for, if 64 bits hold it.
-fn value_of(digits: &[u8]) -> Option<u64>
-    requires { (k : ℕ) → k < length digits.now → digit (slice_index digits.now k) ≡ true }
-    ensures found { IfSome result (λ v. v ≡ value_is digits.now) }
-    ensures none { IfNone result (2 ^ 64 ≤ value_is digits.now) }
-{
-    let mut value: u64 = 0;
-    for byte in digits {
-        value = value.checked_mul(10)?.checked_add((*byte - b'0') as u64)?;
-    }
-    Some(value)
-}
-
-/// The whole number without a sign that is next, if 64 bits hold it.
-fn read_int(cursor: &mut Cursor<'_>) -> Option<u64>
-    ensures found { IfSome result (λ v. IsInt (left cursor.old) v (left cursor.new)) }
+/// A number behind its minus, if it has one (RFC 8259 section 6).
+fn read_unsigned<'a>(cursor: &mut Cursor<'a>, negative: bool) -> Option<Number<'a>>
+    ensures found { IfSome result (λ n. unsigned_at negative (left cursor.old) ≡ Some (token n, left cursor.new)) }
+    ensures small { IfSome result (λ n. IsSmall n) }
     ensures shorter { IfSome result (λ _. length (left cursor.new) < length (left cursor.old)) }
-    ensures none { IfNone result ((v : ℕ) (r : List ℕ) → IsInt (left cursor.old) v r → 2 ^ 64 ≤ v) }
+    ensures none { IfNone result (unsigned_at negative (left cursor.old) ≡ None) }
 {
-    let rest = cursor.rest();
-    let count = digits_len(rest);
-    let (digits, after) = rest.split_at(count);
-    if !is_int(digits) || !ends_number(after) {
+    let whole = read_int(cursor)?;
+    let fraction = read_frac(cursor)?;
+    let (lowers, exponent) = read_exp(cursor)?;
+    if !ends_number(cursor) {
         return None;
     }
-    let value = value_of(digits)?;
-    cursor.advance(count);
-    Some(value)
+    Some(Number {
+        negative,
+        whole,
+        fraction,
+        lowers,
+        exponent,
+    })
 }
 
-fn positive(value: u64) -> Option<i64>
-    ensures { SomeIff result (value < 2 ^ 63) (pos value) }
-{
-    if value < 1 << 63 {
-        Some(value as i64)
-    } else {
-        None
-    }
-}
-
-fn negated(value: u64) -> Option<i64>
-    ensures { SomeIff result (value ≤ 2 ^ 63) (neg_ℤ (pos value)) }
-{
-    if value < 1 << 63 {
-        Some(-(value as i64))
-    } else if value == 1 << 63 {
-        Some(i64::MIN)
-    } else {
-        None
-    }
-}
-
-/// The number that is next (RFC 8259 section 6), if it has no fraction and no exponent, and 64 bits hold it.
-pub fn read_number(cursor: &mut Cursor<'_>) -> Option<i64>
-    ensures found { IfSome result (λ v. IsNumber (left cursor.old) v (left cursor.new)) }
+/// The parts of the number that is next (RFC 8259 section 6).
+fn read_token<'a>(cursor: &mut Cursor<'a>) -> Option<Number<'a>>
+    ensures found { IfSome result (λ n. number_at (left cursor.old) ≡ Some (token n, left cursor.new)) }
+    ensures small { IfSome result (λ n. IsSmall n) }
     ensures shorter { IfSome result (λ _. length (left cursor.new) < length (left cursor.old)) }
-    ensures none { IfNone result ((v : ℤ) (r : List ℕ) → IsNumber (left cursor.old) v r → ⊥) }
+    ensures none { IfNone result (number_at (left cursor.old) ≡ None) }
 {
     if cursor.eat(b'-') {
-        let value = read_int(cursor)?;
-        return negated(value);
+        return read_unsigned(cursor, true);
     }
-    let value = read_int(cursor)?;
-    positive(value)
+    read_unsigned(cursor, false)
+}
+
+/// The number that is next (RFC 8259 section 6), if its exact value is one that is read.
+pub fn read_number(cursor: &mut Cursor<'_>) -> Option<Num>
+    ensures found { IfSome result (λ v. IsNumber (left cursor.old) v (left cursor.new)) }
+    ensures shorter { IfSome result (λ _. length (left cursor.new) < length (left cursor.old)) }
+    ensures none { IfNone result ((v : Num) (r : List ℕ) → IsNumber (left cursor.old) v r → ⊥) }
+{
+    let number = read_token(cursor)?;
+    match num_of(&number) {
+        Ok(num) => Some(num),
+        Err(_) => None,
+    }
 }

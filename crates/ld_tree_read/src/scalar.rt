@@ -8,7 +8,7 @@ use crate::cursor::Cursor;
 use crate::number::read_number;
 use crate::refusal::ReadRefusal;
 use crate::string::read_string;
-use ld_tree::{Num, Tree};
+use ld_tree::Tree;
 use std::alloc::Global;
 
 /// The value that is next and is no list and no map (RFC 8259 section 3).
@@ -32,7 +32,7 @@ pub fn read_scalar(alloc: Global, cursor: &mut Cursor<'_>) -> Result<Tree, ReadR
         return Ok(Tree::Bool(false));
     }
     match read_number(cursor) {
-        Some(value) => Ok(Tree::Num(Num::Whole(value))),
+        Some(num) => Ok(Tree::Num(num)),
         None => Err(ReadRefusal::NotRead),
     }
 }

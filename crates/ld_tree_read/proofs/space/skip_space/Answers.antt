@@ -10,4 +10,4 @@ pub advance-requires : goal.advance-requires
 advance-requires c = omega (arith, c.white_len-count.ensures, prefix_len-le-length is_white c.rest.result.now, ap length c.rest.ensures)
 
 pub returns-clause-space : goal.returns-clause-space
-returns-clause-space c = c.advance.ensures ∙ ap (λ n. drop n (left c.args.cursor.now)) (c.white_len-count.ensures ∙ ap (prefix_len is_white) c.rest.ensures) ∙ past_run (left c.args.cursor.now)
+returns-clause-space c = c.advance.ensures.left ∙ ap (λ n. drop n (left c.args.cursor.now)) (c.white_len-count.ensures ∙ ap (prefix_len is_white) c.rest.ensures) ∙ past_run (left c.args.cursor.now)

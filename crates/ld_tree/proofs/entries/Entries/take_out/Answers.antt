@@ -2,7 +2,7 @@ use Rattle.std.proofs.Common.{sym, ap, subst, ◌∙◌}
 use Rattle.ld_tree.specs.Names.{same_sorted, Sorted, AreInOrder, name_cmp, IsAt, IsPlace}
 use Rattle.ld_tree.specs.InOrder.{in_order_remove}
 use Rattle.ld_tree.specs.Maps.{find as value_at}
-use Rattle.std.specs.Map.{keys_of, lookup, remove_entry}
+use Rattle.std.specs.Map.{keys_of, remove_entry}
 use Rattle.std.specs.BTreeMap.{is_at}
 use Rattle.ld_tree.proofs.Search.{found, none_found, taken_found, remove_none}
 use Rattle.ld_tree.proofs.entries.Entries.take_out.Goals as goal

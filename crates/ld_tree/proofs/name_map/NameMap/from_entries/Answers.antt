@@ -1,7 +1,6 @@
-use Rattle.std.proofs.Common.{◌≡◌, ◌∷◌, ◌++◌, sym, ap, subst, ◌∙◌, arith}
+use Rattle.std.proofs.Common.{◌≡◌, ◌∷◌, ◌++◌, sym, ap, ◌∙◌, arith}
 use Rattle.std.proofs.lemmas.Grind.{common_steps}
-use Rattle.std.specs.Map.{keys_of}
-use Rattle.ld_tree.specs.Names.{AreInOrder, Sorted, same_sorted}
+use Rattle.ld_tree.specs.Names.{same_sorted}
 use Rattle.ld_tree.proofs.Texts.{put_next}
 use Rattle.ld_tree.proofs.name_map.NameMap.from_entries.Goals as goal
 

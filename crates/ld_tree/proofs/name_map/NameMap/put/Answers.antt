@@ -1,8 +1,8 @@
-use Rattle.std.proofs.Common.{ap, sym, subst, ◌∙◌}
+use Rattle.std.proofs.Common.{ap, sym, ◌∙◌}
 use Rattle.std.specs.Prelude.{string_bytes}
-use Rattle.std.specs.Map.{keys_of, lookup}
+use Rattle.std.specs.Map.{lookup}
 use Rattle.std.specs.BTreeMap.{insert_entry, is_at}
-use Rattle.ld_tree.specs.Names.{AreInOrder, Sorted, same_sorted, name_cmp}
+use Rattle.ld_tree.specs.Names.{Sorted, same_sorted, name_cmp}
 use Rattle.ld_tree.specs.Maps.{find as value_at, put as with_put}
 use Rattle.ld_tree.specs.Texts.{named}
 use Rattle.ld_tree.proofs.Texts.{lookup_named, insert_named, in_order_put}

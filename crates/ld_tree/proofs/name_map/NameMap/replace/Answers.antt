@@ -1,7 +1,7 @@
-use Rattle.std.proofs.Common.{ap, sym, subst, ◌∙◌, Some, None}
+use Rattle.std.proofs.Common.{ap, sym, subst, ◌∙◌, Some}
 use Rattle.std.specs.Option.{option_copied_mut}
-use Rattle.std.specs.Map.{keys_of, lookup, set_value}
-use Rattle.std.specs.BTreeMap.{insert_entry, is_at}
+use Rattle.std.specs.Map.{keys_of}
+use Rattle.std.specs.BTreeMap.{insert_entry}
 use Rattle.ld_tree.specs.Names.{AreInOrder, Sorted, same_sorted, name_cmp}
 use Rattle.ld_tree.specs.Maps.{find as value_at, put as with_put}
 use Rattle.ld_tree.specs.Texts.{named}

@@ -8,4 +8,4 @@ returns-then-not-starts_with-clause-other c = λ _ r e. word_none c.rest.result.
 pub returns-clause-eaten : goal.returns-clause-eaten
 returns-clause-eaten c = λ _.
     sym c.rest.ensures ∙ word_found c.rest.result.now c.args.word.now (sym c.if-not-starts_with.ensures.value)
-    ∙ ap (λ l. c.args.word.now ++ l) (ap (drop (length c.args.word.now)) c.rest.ensures ∙ sym c.advance.ensures)
+    ∙ ap (λ l. c.args.word.now ++ l) (ap (drop (length c.args.word.now)) c.rest.ensures ∙ sym c.advance.ensures.left)

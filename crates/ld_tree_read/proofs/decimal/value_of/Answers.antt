@@ -1,6 +1,6 @@
 use Rattle.std.proofs.Common.{◌-◌, ◌^◌, ◌≤◌, get_or, subst}
 use Rattle.ld_tree_read.proofs.Numbers.{too_large, over_product, over_sum}
-use Rattle.ld_tree_read.proofs.number.value_of.Goals as goal
+use Rattle.ld_tree_read.proofs.decimal.value_of.Goals as goal
 
 pub returns-in_err-checked_mul-clause-none : goal.returns-in_err-checked_mul-clause-none
 returns-in_err-checked_mul-clause-none c =

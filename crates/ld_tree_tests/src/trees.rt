@@ -1,4 +1,4 @@
-use crate::{Entries, Items, NameMap, NoMemory, Num, Text, Tree};
+use ld_tree::{Entries, Items, NameMap, NoMemory, Num, Text, Tree};
 use std::alloc::Global;
 use std::cmp::Ordering;
 use std::test::Fail;

@@ -1,6 +1,5 @@
-use crate::parse::read_tree;
-use crate::refusal::ReadRefusal;
 use ld_tree::{Num, Tree};
+use ld_tree_read::{ReadRefusal, read_tree};
 use std::alloc::Global;
 use std::process::Abort;
 use std::test::Fail;
@@ -92,18 +91,60 @@ fn numbers(rt: HostRuntime) -> Result<(), Fail> {
         b"-",
         b"+1",
         b"1.5",
-        b"1.0",
+        b"-1.1",
+        b"0.11",
+        b"1.11",
+        b"111e-2",
         b"1.",
         b".5",
-        b"1e2",
-        b"1E2",
+        b"1.e2",
         b"1e",
+        b"1e+",
+        b"1e2.0",
+        b"1e19",
+        b"-1e19",
+        b"1e99999999999999999999",
+        b"1e-99999999999999999999",
+        b"9223372036854775807.1",
         b"0x1",
         b"1_000",
         b"NaN",
         b"- 1",
     ] {
         refuses(&rt, alloc, bytes);
+    }
+    Ok(())
+}
+
+#[test]
+fn numbers_are_read_by_their_exact_value(rt: HostRuntime) -> Result<(), Fail> {
+    let alloc = rt.alloc();
+    let whole: [(&[u8], i64); 12] = [
+        (b"1.0", 1),
+        (b"-0.0", 0),
+        (b"0e9", 0),
+        (b"0e-99999999999999999999", 0),
+        (b"1e2", 100),
+        (b"1E+2", 100),
+        (b"100e-2", 1),
+        (b"1.50e1", 15),
+        (b"-12.0e0", -12),
+        (b"9.223372036854775807e18", i64::MAX),
+        (b"-9223372036854775808.000", i64::MIN),
+        (b"92233720368547758070000e-4", i64::MAX),
+    ];
+    for (bytes, value) in whole {
+        assert_eq!(rt; read_tree(alloc, bytes)?, Tree::Num(Num::Whole(value)));
+    }
+    for bytes in [
+        b"1.1" as &[u8],
+        b"11e-1",
+        b"1.10",
+        b"0.11e1",
+        b"110E-2",
+        b"0.000011e+5",
+    ] {
+        assert_eq!(rt; read_tree(alloc, bytes)?, Tree::Num(Num::OneOne));
     }
     Ok(())
 }

@@ -2,7 +2,7 @@
 ghost use Rattle.std.specs.Prelude.{◌≡◌, ◌<◌, ℕ, length, take, IfOk};
 ghost use Rattle.std.specs.Io.KnownBytes.{prepend_known, append_known};
 
-use crate::{
+use ld_edge::{
     Failed, FaultPlan, Link, MemLink, MemSink, MemSource, Sink, Source, Status, StdSink, StdSource,
 };
 use ld_tree::Raw;
