@@ -30,7 +30,8 @@ pub fn expand_iri<V: View>(
     from_term(alloc, ctx, ctx.def(value), value, relative, vocab)
 }
 
-fn is_keyword_mapping(mapping: &Option<Text>) -> bool
+/// Whether the IRI mapping is a keyword.
+pub fn is_keyword_mapping(mapping: &Option<Text>) -> bool
     ensures { result ≡ is_keyword_mapping mapping.now }
 {
     match mapping {
@@ -99,9 +100,9 @@ fn from_parts<V: View>(alloc: Global, ctx: &V, value: &str) -> Result<Option<Tex
     }
 }
 
-// Prefix and suffix, round the first colon.
+/// Prefix and suffix of a text with a colon after its first character, round its first colon.
 #[tactic(auto, unfolding(ld_rec::specs::Iris::parts))]
-pub(crate) fn parts(text: &str) -> Option<(&str, &str)>
+pub fn parts(text: &str) -> Option<(&str, &str)>
     ensures { texts result ≡ parts_of text.now }
 {
     if has_inner_colon(text) {
@@ -111,13 +112,15 @@ pub(crate) fn parts(text: &str) -> Option<(&str, &str)>
     }
 }
 
-fn has_inner_colon(text: &str) -> bool
+/// Whether there is a colon after the first character.
+pub fn has_inner_colon(text: &str) -> bool
     ensures { result ≡ has_inner_colon text.now }
 {
     text.as_bytes().iter().skip(1).any(|b| *b == b':')
 }
 
-fn is_whole(prefix: &str, suffix: &str) -> bool
+/// Whether a text with these parts is an IRI or a blank node identifier as it is.
+pub fn is_whole(prefix: &str, suffix: &str) -> bool
     ensures { result ≡ is_whole (prefix.now, suffix.now) }
 {
     prefix == "_" || suffix.starts_with("//")

@@ -20,7 +20,7 @@ mod view;
 pub use ask::{Ask, Names};
 pub use contexts::Contexts;
 pub use ctx::Ctx;
-pub use iri::expand_iri;
+pub use iri::{expand_iri, has_inner_colon, is_keyword_mapping, is_whole, parts};
 pub use ld_rec::{Containers, Def, Doc, Stop, Stored};
 pub use stock::Stock;
 pub use terms::Terms;

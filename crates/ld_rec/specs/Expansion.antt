@@ -36,7 +36,7 @@ abbrev pub items_in : Option Tree → List Tree
 items_in None = []
 items_in (Some tree) = items_of tree
 
--- "ensuring that the result is an array"; null gives the empty one
+-- "ensuring that the result is an array"; null gives the empty one (own)
 abbrev pub as_list : Option Tree → Tree
 as_list tree = list_of (items_in tree)
 
@@ -328,7 +328,7 @@ object_of None result = set_or_list (find result (codes "@set")) (listed_types r
 abbrev pub is_alone : List ℕ → Sorted Tree → Bool
 is_alone name entries = length entries.0 == 1 && has entries name
 
--- 19
+-- 19: with `@value` or `@list`, whatever stands beside it (own)
 abbrev pub floats_free : Sorted Tree → Bool
 floats_free entries = length entries.0 == 0 || has entries (codes "@value") || has entries (codes "@list") || is_alone (codes "@id") entries
 

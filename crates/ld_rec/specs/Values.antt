@@ -138,7 +138,7 @@ abbrev pub put_type : Option (List ℕ) → Sorted Tree → Sorted Tree
 put_type None entries = entries
 put_type (Some type) entries = put entries (codes "@type") (list_of (text_tree type ∷ types_in (find entries (codes "@type"))))
 
--- by what the container includes: `@index`, else `@id`, else `@type`
+-- by what the container includes, whatever the item has (own): `@index`, else `@id`, else `@type`
 abbrev pub with_key : Containers → List ℕ → Option (List ℕ) → Sorted Tree → Sorted Tree
 with_key containers key expanded entries =
     if containers.index then put_absent (codes "@index") (Some key) entries

@@ -1,0 +1,9 @@
+pub mod Along
+pub mod Cases
+pub mod Forms
+pub mod Parts
+pub mod Resuming
+pub mod Shrinking
+pub mod Stack
+pub mod TextLists
+pub mod Texts

@@ -1,0 +1,5 @@
+pub mod Comes
+pub mod NextSizes
+pub mod Runs
+pub mod Sizes
+pub mod Waits
