@@ -1,4 +1,4 @@
--- Maps of shared values.
+-- Maps of mapped values, and of shared ones.
 use Rattle.std.proofs.Common.{◌≡◌, ℕ, List, [], ◌∷◌, map, refl, sym, ap, ◌∙◌, Some, Bool, true, false, cond}
 use Rattle.std.specs.Prelude.{option_map, fold}
 use Rattle.std.specs.Arc.{arc_value}
@@ -16,11 +16,11 @@ use Rattle.ld_ctx.specs.Shares.{value_in, values_of_shared}
 use Rattle.ld_ctx.specs.Stocks.{with_document, stock_of, shared_entries}
 
 module _ {S T : Type 0} (h : S → T) where
-  lookup_mapped : (test : List ℕ → Bool) (es : List (List ℕ × S)) → lookup test (map (on_value h) es) ≡ option_map h (lookup test es)
+  pub lookup_mapped : (test : List ℕ → Bool) (es : List (List ℕ × S)) → lookup test (map (on_value h) es) ≡ option_map h (lookup test es)
   lookup_mapped test [] = refl
   lookup_mapped test (e ∷ es) = elim (test e.0) as (λ b. cond b (Some (h e.1)) (lookup test (map (on_value h) es)) ≡ option_map h (cond b (Some e.1) (lookup test es))) [ true ↦ refl | false ↦ lookup_mapped test es ]
 
-  insert_mapped : (name : List ℕ) (value : S) (es : List (List ℕ × S)) → map (on_value h) (insert_entry name_cmp es name value) ≡ insert_entry name_cmp (map (on_value h) es) name (h value)
+  pub insert_mapped : (name : List ℕ) (value : S) (es : List (List ℕ × S)) → map (on_value h) (insert_entry name_cmp es name value) ≡ insert_entry name_cmp (map (on_value h) es) name (h value)
   insert_mapped name value [] = refl
   insert_mapped name value (e ∷ es) =
       elim (name_cmp name e.0) as (λ o. map (on_value h) (match_ordering o ((name, value) ∷ e ∷ es) ((e.0, value) ∷ es) (e ∷ insert_entry name_cmp es name value))

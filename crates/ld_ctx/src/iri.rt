@@ -1,5 +1,6 @@
 ghost use Rattle.std.specs.Prelude.{◌≡◌, ◌++◌, Some, IfOk, option_copied, string_bytes};
 ghost use Rattle.ld_rec.specs.Iris.{iri_of, has_inner_colon, is_whole, joined, if_iri, is_keyword_mapping};
+ghost use Rattle.ld_rec.specs.Places.{means};
 ghost use Rattle.ld_rec.specs.Iris.{parts as parts_of, from_parts, from_base, from_vocab, from_form, from_term};
 ghost use Rattle.ld_ctx.specs.Parts.{texts};
 
@@ -28,6 +29,16 @@ pub fn expand_iri<V: View>(
         return Ok(None);
     }
     from_term(alloc, ctx, ctx.def(value), value, relative, vocab)
+}
+
+/// Whether the text expands to the keyword by vocabulary (JSON-LD 1.1 API, 5.2.2).
+pub fn means<V: View>(alloc: Global, ctx: &V, keyword: &str, text: &str) -> Result<bool, NoMemory>
+    ensures { IfOk result (λ is. is ≡ means (V.flat ctx.now) keyword.now text.now) }
+{
+    match expand_iri(alloc, ctx, text, false, true)? {
+        Some(iri) => Ok(iri.as_str() == keyword),
+        None => Ok(false),
+    }
 }
 
 /// Whether the IRI mapping is a keyword.

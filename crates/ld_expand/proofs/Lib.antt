@@ -1,6 +1,7 @@
-pub mod Making
-pub mod Levels
-pub mod Kept
-pub mod Steps
-pub mod Refusals
-pub mod Meant
+pub mod Stages
+pub mod Cycle
+pub mod KeywordTexts
+pub mod Slots
+pub mod Rules
+pub mod Endings
+pub mod Sorting

@@ -1,6 +1,2 @@
-pub mod Words
-pub mod Making
-pub mod Kinds
-pub mod Plain
-pub mod Expansion
-pub mod Refusals
+pub mod Steps
+pub mod Slots

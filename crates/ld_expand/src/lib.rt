@@ -1,16 +1,24 @@
-//! Expansion of JSON-LD documents (JSON-LD 1.1 Processing Algorithms and API, 5.1.2), so far for
-//! documents without a context whose only keywords are `@id`, `@type` and `@value`.
+//! The Expansion Algorithm of JSON-LD 1.1 Processing Algorithms and API (section 5.1.2, and 9.1 `expand`).
 //!
-//! Call `expand`. All of `specs/` is to be believed: Words, Kinds and Making are what the others are said in,
-//! Plain is which documents are expanded so far (the project's own choice), Expansion is the algorithm, and
-//! Refusals are the places at which the algorithm has an error to end with. The keywords and their form are
-//! those of `ld_codes` and `ld_iri`.
+//! Call [`expand`]. It works over any [`Contexts`](ld_ctx::Contexts): where a context is to be processed it asks,
+//! and it never stands on how that is done. Its contract says that it gives what `expanded` of ld_rec's
+//! `specs/Expansion.antt` gives over the documents that the contexts stand for: that definition, with the files
+//! that it names, is to be believed. Nothing here is: `specs/Steps.antt` says what the calls within answer, and
+//! `specs/Slots.antt` what a result at work stands for.
+//!
+//! The modules follow the algorithm: `expansion` is the cycle, a call for each stage of an element; `contexts` and
+//! `types` make the contexts of a map; `keywords` and `properties` have the rules that expand nothing within;
+//! `ending` is the end of a map; `making` is the result at work, in which entries are put in any order, each in
+//! logarithmic time, and items are appended where they are.
 #![tactic(auto)]
 
+mod contexts;
+mod ending;
 mod expansion;
-mod plain;
-mod stop;
-mod words;
+mod keywords;
+mod making;
+mod place;
+mod properties;
+mod types;
 
 pub use expansion::expand;
-pub use stop::Stop;

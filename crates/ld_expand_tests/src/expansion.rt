@@ -1,258 +1,124 @@
-use ld_expand::{Stop, expand};
-use ld_tree::{Entries, Items, Num, Text, Tree};
+use crate::contexts::Fresh;
+use ld_expand::expand;
+use ld_tree::Tree;
+use ld_tree_read::read_tree;
 use std::alloc::Global;
 use std::process::Abort;
 
-const P: &str = "http://e/p";
-
-fn text(rt: &impl Abort, alloc: Global, text: &str) -> Tree {
-    Tree::Text(Text::from_str(alloc, text).expect(rt, "memory"))
+pub fn read(rt: &impl Abort, alloc: Global, text: &str) -> Tree {
+    read_tree(alloc, text.as_bytes()).expect(rt, "a JSON text")
 }
 
-fn number(whole: i64) -> Tree {
-    Tree::Num(Num::Whole(whole))
-}
-
-fn none(alloc: Global) -> Tree {
-    Tree::List(Items::new(alloc))
-}
-
-fn empty(alloc: Global) -> Tree {
-    Tree::Map(Entries::new(alloc))
-}
-
-// The list with one more item.
-fn and(rt: &impl Abort, alloc: Global, list: Tree, item: Tree) -> Tree {
-    match list {
-        Tree::List(mut items) => {
-            assert!(rt; items.push(item).is_ok());
-            Tree::List(items)
-        }
-        other => other,
+fn expands(rt: &impl Abort, alloc: Global, base: Option<&str>, document: &str, want: &str) {
+    let tree = read(rt, alloc, document);
+    let got = expand(alloc, &mut Fresh, base, &tree);
+    let want = read(rt, alloc, want);
+    match got {
+        Ok(got) => assert!(rt; got.is_same(&want), "at {document}"),
+        Err(_) => rt.panic("refused"),
     }
 }
 
-// The map with one more entry.
-fn with(rt: &impl Abort, alloc: Global, map: Tree, name: &str, value: Tree) -> Tree {
-    match map {
-        Tree::Map(mut entries) => {
-            let name = Text::from_str(alloc, name).expect(rt, "memory");
-            assert!(rt; entries.put(name, value).is_ok());
-            Tree::Map(entries)
-        }
-        other => other,
+// A row: a document, and what it expands to.
+type Row = (&'static str, &'static str);
+
+fn all_expand(rt: &impl Abort, alloc: Global, rows: &[Row]) {
+    for (document, want) in rows {
+        expands(rt, alloc, None, document, want);
     }
 }
 
-fn one(rt: &impl Abort, alloc: Global, item: Tree) -> Tree {
-    and(rt, alloc, none(alloc), item)
-}
-
-fn under(rt: &impl Abort, alloc: Global, name: &str, value: Tree) -> Tree {
-    with(rt, alloc, empty(alloc), name, value)
-}
-
-// `[{"@value":value}]`
-fn held(rt: &impl Abort, alloc: Global, value: Tree) -> Tree {
-    one(rt, alloc, under(rt, alloc, "@value", value))
-}
-
-fn expands(rt: &impl Abort, alloc: Global, document: Tree, want: Tree) {
-    assert_eq!(rt; expand(alloc, &document), Ok(want));
-}
-
-fn is_refused(rt: &impl Abort, alloc: Global, document: Tree) {
-    assert_eq!(rt; expand(alloc, &document), Err(Stop::NotBuilt));
-}
-
-// `{"http://e/p":[5,null,[true]],"q":1}`
 #[test]
-fn joins_and_drops(rt: HostRuntime) {
-    let alloc = rt.alloc();
-    let rt = &rt;
-    let inner = one(rt, alloc, Tree::Bool(true));
-    let items = and(
-        rt,
-        alloc,
-        and(rt, alloc, one(rt, alloc, number(5)), Tree::Null),
-        inner,
-    );
-    let document = with(rt, alloc, under(rt, alloc, P, items), "q", number(1));
-    let truth = under(rt, alloc, "@value", Tree::Bool(true));
-    let values = and(rt, alloc, held(rt, alloc, number(5)), truth);
-    expands(
-        rt,
-        alloc,
-        document,
-        one(rt, alloc, under(rt, alloc, P, values)),
-    );
+fn documents_that_say_nothing(rt: HostRuntime) {
+    let rows = [
+        ("{}", "[]"),
+        ("null", "[]"),
+        ("[]", "[]"),
+        ("\"free\"", "[]"),
+        (r#"{"@id":"http://e/a"}"#, "[]"),
+        (r#"{"@value":"free"}"#, "[]"),
+        (r#"{"a term of no context":1}"#, "[]"),
+    ];
+    all_expand(&rt, rt.alloc(), &rows);
 }
 
 #[test]
-fn keeps_what_a_property_holds(rt: HostRuntime) {
-    let alloc = rt.alloc();
-    let rt = &rt;
-    expands(
-        rt,
-        alloc,
-        under(rt, alloc, P, none(alloc)),
-        one(rt, alloc, under(rt, alloc, P, none(alloc))),
-    );
-    let want = under(rt, alloc, P, one(rt, alloc, empty(alloc)));
-    expands(
-        rt,
-        alloc,
-        under(rt, alloc, P, empty(alloc)),
-        one(rt, alloc, want),
-    );
-    let node = under(rt, alloc, "@id", text(rt, alloc, "http://e/a"));
-    let want = under(
-        rt,
-        alloc,
-        P,
-        one(
-            rt,
-            alloc,
-            under(rt, alloc, "@id", text(rt, alloc, "http://e/a")),
+fn values_lists_and_sets(rt: HostRuntime) {
+    let rows = [
+        (
+            r#"{"http://e/p":["a",null,[true,[5]]]}"#,
+            r#"[{"http://e/p":[{"@value":"a"},{"@value":true},{"@value":5}]}]"#,
         ),
-    );
-    expands(rt, alloc, under(rt, alloc, P, node), one(rt, alloc, want));
-}
-
-// `{"@id":"a","@type":"t","_:b":"x","http://e/p":{"@value":null}}`
-#[test]
-fn keeps_names_and_types(rt: HostRuntime) {
-    let alloc = rt.alloc();
-    let rt = &rt;
-    let node = with(
-        rt,
-        alloc,
-        under(rt, alloc, "@id", text(rt, alloc, "a")),
-        "@type",
-        text(rt, alloc, "t"),
-    );
-    let node = with(rt, alloc, node, "_:b", text(rt, alloc, "x"));
-    let node = with(rt, alloc, node, P, under(rt, alloc, "@value", Tree::Null));
-    let types = one(rt, alloc, text(rt, alloc, "t"));
-    let want = with(
-        rt,
-        alloc,
-        under(rt, alloc, "@id", text(rt, alloc, "a")),
-        "@type",
-        types,
-    );
-    let want = with(
-        rt,
-        alloc,
-        want,
-        "_:b",
-        held(rt, alloc, text(rt, alloc, "x")),
-    );
-    expands(rt, alloc, node, one(rt, alloc, want));
-}
-
-// `[[{"@type":[]}],[[{"@type":["http://e/T","t"]},5]]]`
-#[test]
-fn joins_lists_of_nodes(rt: HostRuntime) {
-    let alloc = rt.alloc();
-    let rt = &rt;
-    let types = and(
-        rt,
-        alloc,
-        one(rt, alloc, text(rt, alloc, "http://e/T")),
-        text(rt, alloc, "t"),
-    );
-    let inner = and(
-        rt,
-        alloc,
-        one(rt, alloc, under(rt, alloc, "@type", types)),
-        number(5),
-    );
-    let document = and(
-        rt,
-        alloc,
-        one(
-            rt,
-            alloc,
-            one(rt, alloc, under(rt, alloc, "@type", none(alloc))),
+        (
+            r#"{"http://e/p":{"@list":["a",null]}}"#,
+            r#"[{"http://e/p":[{"@list":[{"@value":"a"}]}]}]"#,
         ),
-        one(rt, alloc, inner),
-    );
-    let types = and(
-        rt,
-        alloc,
-        one(rt, alloc, text(rt, alloc, "http://e/T")),
-        text(rt, alloc, "t"),
-    );
-    let want = and(
-        rt,
-        alloc,
-        one(rt, alloc, under(rt, alloc, "@type", none(alloc))),
-        under(rt, alloc, "@type", types),
-    );
-    expands(rt, alloc, document, want);
+        (
+            r#"{"http://e/p":{"@list":null}}"#,
+            r#"[{"http://e/p":[{"@list":[]}]}]"#,
+        ),
+        (
+            r#"{"http://e/p":{"@set":["a",["b"]]}}"#,
+            r#"[{"http://e/p":[{"@value":"a"},{"@value":"b"}]}]"#,
+        ),
+        (
+            r#"{"http://e/p":{"@index":"i","@language":"DE","@value":"a"}}"#,
+            r#"[{"http://e/p":[{"@index":"i","@language":"de","@value":"a"}]}]"#,
+        ),
+        (
+            r#"{"http://e/p":{"@type":"@json","@value":{"b":[1,null]}}}"#,
+            r#"[{"http://e/p":[{"@type":"@json","@value":{"b":[1,null]}}]}]"#,
+        ),
+        (
+            r#"{"http://e/p":{"@value":null}}"#,
+            r#"[]"#,
+        ),
+    ];
+    all_expand(&rt, rt.alloc(), &rows);
 }
 
 #[test]
-fn drops_what_floats_free(rt: HostRuntime) {
-    let alloc = rt.alloc();
-    let rt = &rt;
-    expands(rt, alloc, Tree::Null, none(alloc));
-    expands(rt, alloc, number(5), none(alloc));
-    expands(rt, alloc, none(alloc), none(alloc));
-    expands(rt, alloc, empty(alloc), none(alloc));
-    expands(
-        rt,
-        alloc,
-        under(rt, alloc, "@value", number(5)),
-        none(alloc),
-    );
-    expands(
-        rt,
-        alloc,
-        under(rt, alloc, "@id", text(rt, alloc, "http://e/a")),
-        none(alloc),
-    );
-    expands(
-        rt,
-        alloc,
-        under(rt, alloc, "q", under(rt, alloc, P, number(1))),
-        none(alloc),
-    );
+fn nodes_graphs_and_reverse_properties(rt: HostRuntime) {
+    let rows = [
+        (
+            r#"{"@id":"http://e/a","@type":"http://e/T","http://e/p":{"@id":"http://e/b"}}"#,
+            r#"[{"@id":"http://e/a","@type":["http://e/T"],"http://e/p":[{"@id":"http://e/b"}]}]"#,
+        ),
+        (
+            r#"{"@id":"http://e/a","@language":"en"}"#,
+            r#"[{"@id":"http://e/a","@language":"en"}]"#,
+        ),
+        (
+            r#"{"@graph":[{"@id":"http://e/a","http://e/p":1},{"@id":"http://e/b"}]}"#,
+            r#"[{"@id":"http://e/a","http://e/p":[{"@value":1}]}]"#,
+        ),
+        (
+            r#"{"http://e/p":{"@graph":5}}"#,
+            r#"[{"http://e/p":[{"@graph":[]}]}]"#,
+        ),
+        (
+            r#"{"http://e/p":{"@included":["x"]}}"#,
+            r#"[{"http://e/p":[{"@included":[]}]}]"#,
+        ),
+        (
+            r#"{"@reverse":{"http://e/p":[]}}"#,
+            r#"[{"@reverse":{"http://e/p":[]}}]"#,
+        ),
+        (
+            r#"{"@id":"http://e/a","@reverse":{"http://e/q":{"@id":"http://e/b"},"http://e/p":[]}}"#,
+            r#"[{"@id":"http://e/a","@reverse":{"http://e/p":[],"http://e/q":[{"@id":"http://e/b"}]}}]"#,
+        ),
+    ];
+    all_expand(&rt, rt.alloc(), &rows);
 }
 
 #[test]
-fn stops_at_what_is_not_plain(rt: HostRuntime) {
-    let alloc = rt.alloc();
-    let rt = &rt;
-    is_refused(
-        rt,
-        alloc,
-        under(
-            rt,
-            alloc,
-            "q",
-            one(rt, alloc, under(rt, alloc, "@context", empty(alloc))),
-        ),
+fn identifiers_are_resolved_against_the_base(rt: HostRuntime) {
+    expands(
+        &rt,
+        rt.alloc(),
+        Some("http://e/d/"),
+        r#"{"@id":"a","@type":"../T","http://e/p":{"@id":"?f"}}"#,
+        r#"[{"@id":"http://e/d/a","@type":["http://e/T"],"http://e/p":[{"@id":"http://e/d/?f"}]}]"#,
     );
-    is_refused(rt, alloc, under(rt, alloc, "@id", number(1)));
-    is_refused(rt, alloc, under(rt, alloc, "@id", text(rt, alloc, "@foo")));
-    is_refused(
-        rt,
-        alloc,
-        under(rt, alloc, "@type", one(rt, alloc, text(rt, alloc, "@id"))),
-    );
-    is_refused(rt, alloc, under(rt, alloc, "@value", none(alloc)));
-    is_refused(
-        rt,
-        alloc,
-        with(
-            rt,
-            alloc,
-            under(rt, alloc, "@value", number(1)),
-            "q",
-            number(1),
-        ),
-    );
-    expands(rt, alloc, under(rt, alloc, "@1", number(1)), none(alloc));
 }

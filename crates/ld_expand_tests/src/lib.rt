@@ -5,6 +5,10 @@
 #[cfg(test)]
 mod codes;
 #[cfg(test)]
+mod contexts;
+#[cfg(test)]
 mod expansion;
 #[cfg(test)]
 mod iris;
+#[cfg(test)]
+mod refusals;

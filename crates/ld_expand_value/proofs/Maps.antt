@@ -31,18 +31,18 @@ same_name name = elim (name_cmp name name) as (λ o. o ≡ ordering_reverse o �
 ] (nat_list_cmp_total.antisymm name name)
 
 -- of two values that are put under one name, the second stays
-twice : (name : List ℕ) (a b : Tree) (es : List (List ℕ × Tree)) → insert_entry name_cmp (insert_entry name_cmp es name a) name b ≡ insert_entry name_cmp es name b
-twice name a b [] = ap (λ (o : Ordering). match_ordering o ((name, b) ∷ (name, a) ∷ []) ((name, b) ∷ []) ((name, a) ∷ (name, b) ∷ [])) (same_name name)
-twice name a b (x ∷ xs) =
+twice : {T : Type 0} (name : List ℕ) (a b : T) (es : List (List ℕ × T)) → insert_entry name_cmp (insert_entry name_cmp es name a) name b ≡ insert_entry name_cmp es name b
+twice {T} name a b [] = ap (λ (o : Ordering). match_ordering o ((name, b) ∷ (name, a) ∷ []) ((name, b) ∷ []) ((name, a) ∷ (name, b) ∷ [])) (same_name name)
+twice {T} name a b (x ∷ xs) =
     elim (name_cmp name x.0) as (λ o. name_cmp name x.0 ≡ o
     → insert_entry name_cmp (match_ordering o ((name, a) ∷ x ∷ xs) ((x.0, a) ∷ xs) (x ∷ insert_entry name_cmp xs name a)) name b ≡ match_ordering o ((name, b) ∷ x ∷ xs) ((x.0, b) ∷ xs) (x ∷ insert_entry name_cmp xs name b)) [
       | Less ↦ λ e. ap (λ (o : Ordering). match_ordering o ((name, b) ∷ (name, a) ∷ x ∷ xs) ((name, b) ∷ x ∷ xs) ((name, a) ∷ insert_entry name_cmp (x ∷ xs) name b)) (same_name name)
       | Equal ↦ λ e. ap (λ (o : Ordering). match_ordering o ((name, b) ∷ (x.0, a) ∷ xs) ((x.0, b) ∷ xs) ((x.0, a) ∷ insert_entry name_cmp xs name b)) e
       | Greater ↦ λ e. ap (λ (o : Ordering). match_ordering o ((name, b) ∷ x ∷ insert_entry name_cmp xs name a) ((x.0, b) ∷ insert_entry name_cmp xs name a) (x ∷ insert_entry name_cmp (insert_entry name_cmp xs name a) name b)) e
-          ∙ ap (λ (es : List (List ℕ × Tree)). x ∷ es) (twice name a b xs)
+          ∙ ap (λ (es : List (List ℕ × T)). x ∷ es) (twice name a b xs)
     ] refl
 
-pub put_twice : (m : Sorted Tree) (name : List ℕ) (a b : Tree) → put (put m name a) name b ≡ put m name b
+pub put_twice : {T : Type 0} (m : Sorted T) (name : List ℕ) (a b : T) → put (put m name a) name b ≡ put m name b
 put_twice m name a b = same_sorted _ _ (twice name a b m.0)
 
 -- the types behind a new one, where the former ones were moved out

@@ -70,7 +70,8 @@ fn are_graph_names(entries: &Entries<Tree>) -> bool
     true
 }
 
-fn as_graph(alloc: Global, item: Tree) -> Result<Tree, NoMemory>
+/// The item as the one in a graph object (13.8.3.7.1).
+pub fn as_graph(alloc: Global, item: Tree) -> Result<Tree, NoMemory>
     ensures { IfOk result (λ tree. tree ≡ as_graph item) }
 {
     let mut items = Vec::with_capacity(alloc, 1)?;

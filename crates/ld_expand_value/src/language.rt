@@ -1,7 +1,6 @@
-ghost use Rattle.std.specs.Prelude.{◌≡◌, IfOk, OnOk, ◌++◌, ◌∷◌, [], codes, filter_map, option_to_list};
+ghost use Rattle.std.specs.Prelude.{◌≡◌, IfOk, OnOk, ◌++◌, ◌∷◌, [], filter_map, option_to_list};
 ghost use Rattle.std.specs.List.{list_all};
 ghost use Rattle.ld_rec.specs.Outcome.{Gives, GivesAs};
-ghost use Rattle.ld_rec.specs.Places.{means};
 ghost use Rattle.ld_rec.specs.Kinds.{text_tree as tree_of_text};
 ghost use Rattle.ld_rec.specs.Values.{tagged_value as value_with, language_key, language_map, language_entry, language_item, is_language_entry, is_language_item};
 ghost use Rattle.ld_expand_value.specs.Adding.{added};
@@ -9,7 +8,7 @@ ghost use Rattle.ld_expand_value.specs.Adding.{added};
 use crate::making::text_tree;
 use crate::value::tagged_value;
 use ld_codes::Code;
-use ld_ctx::{Stop, View, expand_iri};
+use ld_ctx::{Stop, View, means};
 use ld_tree::{Entries, Items, NoMemory, Text, Tree};
 use std::alloc::Global;
 use std::slice;
@@ -50,19 +49,10 @@ fn add_entry<V: View>(
 fn language_key<V: View>(alloc: Global, ctx: &V, key: &str) -> Result<Option<Text>, NoMemory>
     ensures { IfOk result (λ tag. tag ≡ language_key (V.flat ctx.now) key.now) }
 {
-    if means_none(alloc, ctx, key)? {
+    if means(alloc, ctx, "@none", key)? {
         Ok(None)
     } else {
         Ok(Some(Text::from_string(key.to_ascii_lowercase(alloc)?)))
-    }
-}
-
-fn means_none<V: View>(alloc: Global, ctx: &V, key: &str) -> Result<bool, NoMemory>
-    ensures { IfOk result (λ is. is ≡ means (V.flat ctx.now) (codes "@none") key.now) }
-{
-    match expand_iri(alloc, ctx, key, false, true)? {
-        Some(iri) => Ok(iri.as_str() == "@none"),
-        None => Ok(false),
     }
 }
 

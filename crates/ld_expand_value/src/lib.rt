@@ -3,7 +3,8 @@
 //!
 //! - [`expand_value`] is Value Expansion: what a scalar comes to under a property.
 //! - [`language_map`] gives the items of a language map.
-//! - [`index_item`] finishes one item of an index, id, type or graph map.
+//! - [`index_item`] finishes one item of an index, id, type or graph map, and [`as_graph`] makes one a graph object.
+//! - [`making`] makes maps of one or two entries, and puts entries.
 //!
 //! Each gives its word of ld_rec's `specs/Values.antt`, over any [`View`](ld_ctx::View) of a context: that file is
 //! to be believed. `specs/Adding.antt` is the code's own.
@@ -11,9 +12,9 @@
 
 mod index;
 mod language;
-mod making;
+pub mod making;
 mod value;
 
-pub use index::index_item;
+pub use index::{as_graph, index_item};
 pub use language::language_map;
 pub use value::expand_value;

@@ -5,11 +5,11 @@ use Rattle.std.specs.Io.KnownBytes.{prepend_known}
 use Rattle.ld_edge.specs.Sides.{Incoming, Outgoing}
 use Rattle.ld_edge.specs.declared.status.Status.{Status}
 use Rattle.ld_edge.specs.declared.status.Status.TheVariants.{Done, Refused, Usage, InputTooLong}
-use Rattle.ld_tree.specs.declared.tree.Tree.{Tree}
 use Rattle.ld_script.proofs.Scripts.{not_bad}
+use Rattle.ld_once.proofs.Replied.{not_answered_twice}
 use Rattle.ld_once.specs.declared.command.Command.{Command}
 use Rattle.ld_once.specs.declared.command.Command.TheVariants.{Expand, Schedule}
-use Rattle.ld_once.specs.Runs.{input_limit, IsFormOf, IsNoJson, IsNotBuilt, HasPlain, IsResult, IsWhyNot, Due, Reads, IsReadToEnd, IsReadFor, IsUnlessFailed, Ended, written, write_failed, read_failed, no_memory}
+use Rattle.ld_once.specs.Runs.{input_limit, IsFormOf, IsAnswered, IsResult, IsWhyNot, Due, Reads, IsReadToEnd, IsReadFor, IsUnlessFailed, Ended, written, write_failed, read_failed, no_memory}
 
 words_differ : codes "expand" ∷ [] ≡ codes "schedule" ∷ [] → ⊥
 words_differ e = cc
@@ -22,13 +22,14 @@ same_command words Schedule Expand h k = absurd (words_differ (sym k ∙ h))
 same_command words Schedule Schedule h k = refl
 
 module _ (bytes out out' : List ℕ) where
-  not_refused : (document : Tree) → HasPlain bytes document → (is is' : Type 0) → (IsNoJson bytes × is) ⊎ (IsNotBuilt bytes × is') → ⊥
-  not_refused document has is is' (inl none) = none.0 has.0 has.1
-  not_refused document has is is' (inr other) = other.0.1 document has
-
   -- an input that a command makes something of isn't refused
+  not_refused : IsAnswered bytes Done out → IsWhyNot Expand bytes out' → ⊥
+  not_refused h (inl none) = none.0 h.1.0 h.1.1
+  not_refused h (inr (inl other)) = other.0.1 h.0 h.1
+  not_refused h (inr (inr refused)) = not_answered_twice bytes out out' h refused
+
   not_both : (command : Command) → IsResult command bytes out → IsWhyNot command bytes out' → ⊥
-  not_both Expand h k = not_refused h.0 h.1 _ _ k
+  not_both Expand h k = not_refused h k
   not_both Schedule h k = not_bad h.script k.1
 
 module _ (words : List (List ℕ)) (bytes out out' : List ℕ) where

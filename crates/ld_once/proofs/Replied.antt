@@ -1,16 +1,16 @@
 -- From the parts of a reply to the whole.
-use Rattle.std.proofs.Common.{◌≡◌, ◌∙◌, ℕ, List, [], ◌∷◌, true, true≢false, inl, inr, sym, ap, subst}
+use Rattle.std.proofs.Common.{◌≡◌, ℕ, List, [], ◌∷◌, inl, inr, refl, sym, ap, subst}
 use Rattle.std.specs.Prelude.{codes, IfOk, Result, Ok, Err}
 use Rattle.ld_edge.specs.declared.status.Status.{Status}
 use Rattle.ld_edge.specs.declared.status.Status.TheVariants.{Done, Refused}
 use Rattle.ld_tree.specs.Reading.{reads}
 use Rattle.ld_tree.specs.declared.tree.Tree.{Tree, out-Tree}
 use Rattle.ld_tree.specs.declared.tree.Tree.TheOpen.{Tree-F}
-use Rattle.ld_expand.specs.Plain.{is_plain}
+use Rattle.ld_rec.specs.declared.stop.Stop.{Stop}
 use Rattle.ld_tree.proofs.Once.{read_once}
 use Rattle.ld_once.specs.declared.command.Command.TheVariants.{Expand}
-use Rattle.ld_once.specs.Runs.{IsEnvelope, IsEnvelopeAt, HasPlain, IsReply, not_json, not_built}
-use Rattle.ld_once.specs.Replies.{IsRefusal, IsAnswer}
+use Rattle.ld_once.specs.Runs.{IsEnvelope, IsEnvelopeAt, HasDocument, IsAnswer, IsAnswered, IsReply, comes_to, not_json, not_built}
+use Rattle.ld_once.specs.Replies.{IsRefusal}
 
 -- what holds of each value of a kind holds of the value that is there
 pub IfOk-map : {T E : Type 0} (r : Result T E) (P Q : T → Type 0) → ((t : T) → P t → Q t) → IfOk r P → IfOk r Q
@@ -24,25 +24,35 @@ envelope_at_once : (y : Tree-F Tree) (s t : Tree) → IsEnvelopeAt y s → IsEnv
 envelope_at_once (Tree-F.Map es) s t h k = one_document (codes "document") s t es.0 h k
 envelope_at_once _ s t h k = absurd h
 
-module _ (bytes : List ℕ) (tree : Tree) (reading : reads bytes tree) where
-  -- the document of the envelope that was read
-  has_plain : (document other : Tree) → IsEnvelope tree document → HasPlain bytes other → is_plain document ≡ true
-  has_plain document other envelope has =
-      let same : has.0 ≡ tree = read_once bytes has.0 tree has.1 reading in
-      let one : other ≡ document = envelope_at_once (out-Tree tree) other document (subst (λ t. IsEnvelope t other) same has.2) envelope in
-      subst (λ d. is_plain d ≡ true) one has.3
+-- an input is an envelope with one document
+pub document_once : (bytes : List ℕ) (s t : Tree) → HasDocument bytes s → HasDocument bytes t → s ≡ t
+document_once bytes s t has has' =
+    envelope_at_once (out-Tree has'.0) s t (subst (λ tree. IsEnvelope tree s) (read_once bytes has.0 has'.0 has.1 has'.1) has.2) has'.2
 
-  pub IsReply-answer : (document : Tree) → IsEnvelope tree document → (status : Status) (out : List ℕ) → IsAnswer document status out → IsReply Expand bytes status out
-  IsReply-answer document envelope Done out h = (document, (tree, reading, envelope, h.0), h.1)
-  IsReply-answer document envelope Refused out h =
-      inr (((tree, reading), λ other has. true≢false (sym (has_plain document other envelope has) ∙ h.0)), h.1)
-  IsReply-answer document envelope _ out h = absurd h
+no_other_answer : (r : Result Tree Stop) (out out' : List ℕ) → IsAnswer r Done out → IsAnswer r Refused out' → ⊥
+no_other_answer (Ok tree) out out' h k = k
+no_other_answer (Err e) out out' h k = h
+
+-- a document that has an expansion isn't refused
+pub not_answered_twice : (bytes out out' : List ℕ) → IsAnswered bytes Done out → IsAnswered bytes Refused out' → ⊥
+not_answered_twice bytes out out' h k =
+    no_other_answer (comes_to h.0) out out' h.2 (subst (λ d. IsAnswer (comes_to d) Refused out') (document_once bytes k.0 h.0 k.1 h.1) k.2)
+
+module _ (bytes : List ℕ) (tree : Tree) (reading : reads bytes tree) where
+  by_outcome : (r : Result Tree Stop) (document : Tree) → comes_to document ≡ r → IsEnvelope tree document → (status : Status) (out : List ℕ) → IsAnswer r status out → IsReply Expand bytes status out
+  by_outcome (Ok t) document is envelope Done out h = (document, (tree, reading, envelope), subst (λ r. IsAnswer r Done out) (sym is) h)
+  by_outcome (Err e) document is envelope Refused out h = inr (inr (document, (tree, reading, envelope), subst (λ r. IsAnswer r Refused out) (sym is) h))
+  by_outcome (Ok t) document is envelope _ out h = absurd h
+  by_outcome (Err e) document is envelope _ out h = absurd h
+
+  pub IsReply-answer : (document : Tree) → IsEnvelope tree document → (status : Status) (out : List ℕ) → IsAnswer (comes_to document) status out → IsReply Expand bytes status out
+  IsReply-answer document envelope = by_outcome (comes_to document) document refl envelope
 
   pub IsReply-no_envelope : ((document : Tree) → IsEnvelope tree document → ⊥) → (status : Status) (out : List ℕ) → IsRefusal not_built status out → IsReply Expand bytes status out
   IsReply-no_envelope none status out h =
-      let without : (document : Tree) → HasPlain bytes document → ⊥ = λ document has.
+      let without : (document : Tree) → HasDocument bytes document → ⊥ = λ document has.
       none document (subst (λ t. IsEnvelope t document) (read_once bytes has.0 tree has.1 reading) has.2) in
-      subst (λ s. IsReply Expand bytes s out) (sym h.0) (inr (((tree, reading), without), h.1))
+      subst (λ s. IsReply Expand bytes s out) (sym h.0) (inr (inl (((tree, reading), without), h.1)))
 
 pub IsReply-no_json : (bytes : List ℕ) → ((tree : Tree) → reads bytes tree → ⊥) → (status : Status) (out : List ℕ) → IsRefusal not_json status out → IsReply Expand bytes status out
 IsReply-no_json bytes none status out h = subst (λ s. IsReply Expand bytes s out) (sym h.0) (inl (none, h.1))

@@ -1,16 +1,21 @@
 -- What a run of the program owes.
-use Rattle.std.specs.Prelude.{◌≡◌, ℕ, ◌<◌, ◌≤◌, ◌⊎◌, true, IsTrue, IfSome, List, [], ◌∷◌, ◌++◌, length, take, codes, decimal}
+use Rattle.std.specs.Prelude.{◌≡◌, ℕ, ◌<◌, ◌≤◌, ◌⊎◌, IsTrue, Option, Some, None, IfSome, Result, Ok, Err, List, [], ◌∷◌, ◌++◌, length, take, codes, decimal}
 use Rattle.std.specs.Io.KnownBytes.{append_known, prepend_known}
 use Rattle.ld_edge.specs.Faults.{Rose}
 use Rattle.ld_edge.specs.Sides.{Incoming, Outgoing}
 use Rattle.ld_edge.specs.declared.status.Status.{Status}
 use Rattle.ld_edge.specs.declared.status.Status.TheVariants.{Done, Refused, Usage, ReadFault, WriteFault, NoMemory, InputTooLong}
-use Rattle.ld_tree.specs.CompactText.{text}
+use Rattle.ld_codes.specs.Codes.{text_of}
+use Rattle.ld_codes.specs.Keywords.{keyword_text}
+use Rattle.ld_codes.specs.declared.own.Own.TheVariants.{NestingLimit, OutsideProfile}
+use Rattle.ld_tree.specs.CompactText.{text, quoted}
+use Rattle.ld_tree.specs.Maps.{empty}
 use Rattle.ld_tree.specs.declared.tree.Tree.{Tree, out-Tree}
 use Rattle.ld_tree.specs.declared.tree.Tree.TheOpen.{Tree-F}
 use Rattle.ld_tree.specs.Reading.{reads}
-use Rattle.ld_expand.specs.Plain.{is_plain}
-use Rattle.ld_expand.specs.Expansion.{expanded}
+use Rattle.ld_rec.specs.Expansion.{expanded}
+use Rattle.ld_rec.specs.declared.stop.Stop.{Stop}
+use Rattle.ld_rec.specs.declared.stop.Stop.TheVariants as stop
 use Rattle.ld_script.specs.Scripts.{IsBadAt}
 use Rattle.ld_script.specs.Printed.{IsOutput}
 use Rattle.ld_once.specs.declared.command.Command.{Command}
@@ -61,26 +66,47 @@ IsEnvelopeAt _ document = ⊥
 abbrev pub IsEnvelope : Tree → Tree → Type 0
 IsEnvelope tree document = IsEnvelopeAt (out-Tree tree) document
 
--- the input is an envelope with this document, which is plain
-abbrev pub HasPlain : List ℕ → Tree → Type 0
-HasPlain bytes document = (tree : Tree) × reads bytes tree × IsEnvelope tree document × (is_plain document ≡ true)
+-- the input is an envelope with this document
+abbrev pub HasDocument : List ℕ → Tree → Type 0
+HasDocument bytes document = (tree : Tree) × reads bytes tree × IsEnvelope tree document
 
 -- the input is no JSON text
 abbrev pub IsNoJson : List ℕ → Type 0
 IsNoJson bytes = (tree : Tree) → reads bytes tree → ⊥
 
--- the input is JSON, but no envelope with a plain document
-abbrev pub IsNotBuilt : List ℕ → Type 0
-IsNotBuilt bytes = ((tree : Tree) × reads bytes tree) × ((document : Tree) → HasPlain bytes document → ⊥)
+-- the input is JSON, but no envelope
+abbrev pub IsNoEnvelope : List ℕ → Type 0
+IsNoEnvelope bytes = ((tree : Tree) × reads bytes tree) × ((document : Tree) → HasDocument bytes document → ⊥)
 
--- what a command makes of an input: an envelope is expanded, and a script is run
+-- what a document comes to: its expansion without a base, over no documents that it could name as contexts
+abbrev pub comes_to : Tree → Result Tree Stop
+comes_to document = (expanded empty None document).result
+
+-- why it has no expansion; a document that it names isn't there yet
+abbrev pub body_of : Stop → Option (List ℕ)
+body_of (stop.Code code) = Some (line (codes "{\"code\":" ++ quoted (text_of code) ++ codes "}"))
+body_of (stop.Own NestingLimit) = Some (line (codes "{\"own\":\"nesting limit\"}"))
+body_of (stop.Own (OutsideProfile keyword)) = Some (line (codes "{\"keyword\":" ++ quoted (keyword_text keyword) ++ codes ",\"own\":\"outside profile\"}"))
+body_of (stop.Missing iri) = Some not_built
+body_of stop.NoMemory = None
+
+-- what is answered for it
+abbrev pub IsAnswer : Result Tree Stop → Status → List ℕ → Type 0
+IsAnswer (Ok tree) Done out = out ≡ line (text tree)
+IsAnswer (Err e) Refused out = body_of e ≡ Some out
+IsAnswer _ status out = ⊥
+
+abbrev pub IsAnswered : List ℕ → Status → List ℕ → Type 0
+IsAnswered bytes status out = (document : Tree) × HasDocument bytes document × IsAnswer (comes_to document) status out
+
+-- what a command makes of an input: an envelope's document is expanded, and a script is run
 abbrev pub IsResult : Command → List ℕ → List ℕ → Type 0
-IsResult Expand bytes out = (document : Tree) × HasPlain bytes document × (out ≡ line (text (expanded document)))
+IsResult Expand bytes out = IsAnswered bytes Done out
 IsResult Schedule bytes out = IsOutput bytes out
 
 -- why it makes nothing of it
 abbrev pub IsWhyNot : Command → List ℕ → List ℕ → Type 0
-IsWhyNot Expand bytes out = (IsNoJson bytes × (out ≡ not_json)) ⊎ (IsNotBuilt bytes × (out ≡ not_built))
+IsWhyNot Expand bytes out = (IsNoJson bytes × (out ≡ not_json)) ⊎ (IsNoEnvelope bytes × (out ≡ not_built)) ⊎ IsAnswered bytes Refused out
 IsWhyNot Schedule bytes out = (number : ℕ) × IsBadAt bytes number × (out ≡ bad_line number)
 
 -- what a whole input within the limit is answered: each status, when it is due, and the text that goes with it

@@ -12,6 +12,8 @@ mod input;
 mod output;
 mod print;
 mod reply;
+#[cfg(test)]
+mod rows;
 mod run;
 #[cfg(test)]
 mod tests;

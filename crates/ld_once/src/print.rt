@@ -82,7 +82,8 @@ fn print_number(n: Num, out: &mut Vec<u8>) -> Result<(), NoMemory>
     }
 }
 
-fn print_text(text: &str, out: &mut Vec<u8>) -> Result<(), NoMemory>
+/// Appends the text as a JSON string.
+pub fn print_text(text: &str, out: &mut Vec<u8>) -> Result<(), NoMemory>
     ensures { OnOk result (out.new.items ≡ out.old.items ++ quoted text.now) }
 {
     out.push(b'"')?;

@@ -1,15 +1,20 @@
-ghost use Rattle.std.specs.Prelude.{◌≡◌, ◌++◌, MatchOption, IfOk, option_copied};
+ghost use Rattle.std.specs.Prelude.{◌≡◌, ◌++◌, MatchOption, IfOk, Ok, Err, option_copied};
+ghost use Rattle.ld_codes.specs.declared.own.Own.TheVariants.{OutsideProfile};
 ghost use Rattle.ld_edge.specs.declared.status.Status.TheVariants as status;
 ghost use Rattle.ld_tree.specs.declared.tree.Tree.{Tree};
 ghost use Rattle.ld_once.specs.declared.command.Command.TheVariants as commands;
-ghost use Rattle.ld_once.specs.Runs.{IsEnvelope, IsReply, bad_line};
-ghost use Rattle.ld_once.specs.Replies.{IsRefusal, IsAnswer};
+ghost use Rattle.ld_rec.specs.declared.stop.Stop.TheVariants as stop;
+ghost use Rattle.ld_once.specs.Runs.{IsAnswer, IsEnvelope, IsReply, bad_line, body_of, comes_to};
+ghost use Rattle.ld_once.specs.Replies.{IsRefusal};
 
 use crate::command::Command;
-use crate::print::{print_bytes, print_tree};
+use crate::print::{print_bytes, print_text, print_tree};
 use itoa::Buffer;
+use ld_codes::{Code, Keyword, Own};
+use ld_context::Plain;
+use ld_ctx::{Stock, Stop};
 use ld_edge::Status;
-use ld_expand::{Stop, expand};
+use ld_expand::expand;
 use ld_script::{ScriptRefusal, run_script};
 use ld_tree::{NoMemory, Tree};
 use ld_tree_read::{ReadRefusal, read_tree};
@@ -25,6 +30,8 @@ pub struct Reply {
 const NOT_JSON: &[u8] = b"{\"own\":\"not json\"}\n";
 
 const NOT_BUILT: &[u8] = b"{\"own\":\"not built\"}\n";
+
+const NESTING_LIMIT: &[u8] = b"{\"own\":\"nesting limit\"}\n";
 
 /// Answers a whole input, as the command does.
 pub fn reply_to(alloc: Global, command: Command, bytes: &[u8]) -> Result<Reply, NoMemory>
@@ -91,22 +98,67 @@ fn document_of(tree: &Tree) -> Option<&Tree>
     }
 }
 
+// The document expanded, or why it isn't. There are no documents yet that it could name as contexts.
 fn answer(alloc: Global, document: &Tree) -> Result<Reply, NoMemory>
-    ensures { IfOk result (λ r. IsAnswer document.now r.status r.text.items) }
+    ensures { IfOk result (λ r. IsAnswer (comes_to document.now) r.status r.text.items) }
 {
-    match expand(alloc, document) {
-        Ok(expanded) => {
-            let mut text = Vec::new(alloc);
-            print_tree(&expanded, &mut text)?;
-            text.push(b'\n')?;
-            Ok(Reply {
-                status: Status::Done,
-                text,
-            })
-        }
-        Err(Stop::NotBuilt) => refuse(alloc, NOT_BUILT),
-        Err(Stop::NoMemory) => Err(NoMemory),
+    let stock = Stock::of(alloc, Vec::new(alloc))?;
+    let mut contexts = Plain::new(alloc, &stock);
+    match expand(alloc, &mut contexts, None, document) {
+        Ok(expanded) => done(alloc, &expanded),
+        Err(stop) => refuse_for(alloc, stop),
     }
+}
+
+fn done(alloc: Global, tree: &Tree) -> Result<Reply, NoMemory>
+    ensures { IfOk result (λ r. IsAnswer (Ok tree.now) r.status r.text.items) }
+{
+    let mut text = Vec::new(alloc);
+    print_tree(tree, &mut text)?;
+    text.push(b'\n')?;
+    Ok(Reply {
+        status: Status::Done,
+        text,
+    })
+}
+
+// Want of memory is no body.
+fn refuse_for(alloc: Global, stop: Stop) -> Result<Reply, NoMemory>
+    ensures { IfOk result (λ r. IsAnswer (Err stop) r.status r.text.items) }
+{
+    match stop {
+        Stop::Code(code) => refuse_code(alloc, code),
+        Stop::Own(Own::NestingLimit) => refuse(alloc, NESTING_LIMIT),
+        Stop::Own(Own::OutsideProfile(keyword)) => refuse_keyword(alloc, keyword),
+        Stop::Missing(_) => refuse(alloc, NOT_BUILT),
+        Stop::NoMemory => Err(NoMemory),
+    }
+}
+
+fn refuse_code(alloc: Global, code: Code) -> Result<Reply, NoMemory>
+    ensures { IfOk result (λ r. IsAnswer (Err (stop.Code code)) r.status r.text.items) }
+{
+    let mut text = Vec::new(alloc);
+    print_bytes(b"{\"code\":", &mut text)?;
+    print_text(code.text(), &mut text)?;
+    print_bytes(b"}\n", &mut text)?;
+    Ok(Reply {
+        status: Status::Refused,
+        text,
+    })
+}
+
+fn refuse_keyword(alloc: Global, keyword: Keyword) -> Result<Reply, NoMemory>
+    ensures { IfOk result (λ r. IsAnswer (Err (stop.Own (OutsideProfile keyword))) r.status r.text.items) }
+{
+    let mut text = Vec::new(alloc);
+    print_bytes(b"{\"keyword\":", &mut text)?;
+    print_text(keyword.text(), &mut text)?;
+    print_bytes(b",\"own\":\"outside profile\"}\n", &mut text)?;
+    Ok(Reply {
+        status: Status::Refused,
+        text,
+    })
 }
 
 fn refuse(alloc: Global, text: &[u8]) -> Result<Reply, NoMemory>

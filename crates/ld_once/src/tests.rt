@@ -16,7 +16,7 @@ const USAGE: &str =
     "usage: expand | compact | flatten | schedule | soak <n> | serve <address> <workers> <connections> <every>\n";
 
 // Runs over memory objects that take at most `piece` bytes a call, and fail at the calls listed.
-fn run(
+pub fn run(
     alloc: Global,
     form: &[&str],
     input: Vec<u8>,
@@ -51,7 +51,7 @@ fn answers_inputs(rt: HostRuntime) -> Result<(), Fail> {
         ("{\"document\":null}", Status::Done, "[]\n"),
         ("{\"document\":[]}", Status::Done, "[]\n"),
         (
-            "{\"document\":{\"@context\":{}}}",
+            "{\"document\":{\"@context\":\"http://c/x\"}}",
             Status::Refused,
             not_built,
         ),

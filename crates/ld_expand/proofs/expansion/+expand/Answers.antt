@@ -1,53 +1,48 @@
-use Rattle.std.proofs.Common.{rules, ◌≡◌, ◌∙◌, ◌++◌, true, sym, ap, subst}
-use Rattle.std.specs.Prelude.{OnOk, option_copied, Some}
-use Rattle.ld_tree.specs.declared.tree.Tree.TheViews.{the_lemmas}
-use Rattle.ld_expand.specs.Words.{meaning_of}
-use Rattle.ld_expand.specs.Kinds.{items_of}
-use Rattle.ld_expand.specs.Making.{list_of}
-use Rattle.ld_expand.specs.Plain.{is_plain, is_plain_entry}
-use Rattle.ld_expand.proofs.Levels.{plain_list, plain_map}
-use Rattle.ld_expand.proofs.Kept.{plain_alone}
-use Rattle.ld_expand.proofs.Steps.{here_passes, in_order_all, list_comes, list_adds, single_adds, kept_comes, types_come}
+use Rattle.std.proofs.Common.{◌≡◌, ◌∙◌, ap, sym, map, [], Ok, Some, rules}
+use Rattle.std.proofs.Math.ListN.{drop_of_length-le}
+use Rattle.std.specs.Prelude.{option_copied}
+use Rattle.ld_tree.specs.declared.tree.Tree.TheVariants as V
+use Rattle.ld_rec.specs.Kinds.{list_of}
+use Rattle.ld_rec.specs.Outcome.{Refuses, each}
+use Rattle.ld_rec.specs.Places.{containers_of}
+use Rattle.ld_rec.specs.Expansion.{add_key, keyed_becomes}
+use Rattle.ld_expand.specs.Steps.{placed, seen, beside, entry_beside}
+use Rattle.ld_expand.proofs.Cycle.{entry_goes, entry_refuses, keyed_gives, keyed_refuses, property_gives}
 use Rattle.ld_expand.proofs.expansion.+expand.Goals as goal
 
-pub expand_element-expand_items-requires : goal.expand_element-expand_items-requires
-expand_element-expand_items-requires t c = (search (rules, the_lemmas), sym (plain_list c.in-List.items) ∙ ap is_plain (sym c.in-List.is) ∙ c.requires)
+pub add_by_property-returns-in-Some-clause-answer : goal.add_by_property-returns-in-Some-clause-answer
+add_by_property-returns-in-Some-clause-answer g t c =
+    property_gives (g.C.Contexts.stock c.args.contexts.now) (seen g.C.Kept.View.flat c.args.node.now) c.args.iri c.args.name.now (beside (option_copied c.args.node.now.base) c.args.value.now) _ (option_copied c.def-def.result)
+    c.in_ok-tree.field-0 c.in-Some.tree c.args.made.now c.add_property.new.made c.add_property.result c.def-def.ensures c.in_ok-tree.ensures.answer c.in-Some.is
+    (c.add_property.ensures (g.C.Contexts.stock c.args.contexts.now))
 
-pub expand_element-expand_entries-requires : goal.expand_element-expand_entries-requires
-expand_element-expand_entries-requires t c = (search (rules, the_lemmas), plain_alone _ _ (sym (plain_map c.in-Map.entries) ∙ ap is_plain (sym c.in-Map.is) ∙ c.requires))
+pub expand_keyed-loop-key-preserved : goal.expand_keyed-loop-key-preserved
+expand_keyed-loop-key-preserved g t c =
+    let inv = c.loop-key.invariant in (
+      entry_goes (g.C.Contexts.stock c.args.contexts.now) (g.C.Contexts.stock c.loop-key.contexts) inv.1.0 (add_key c.containers_of-containers.result (placed g.C.Kept.View.flat c.args.place.now)) (option_copied c.args.place.now.base)
+          c.args.entries.now.0 c.as_slice-key-items.result.now c.loop-key.key-index c.loop-key-item.result c.as_str.result.now c.loop-key-test.true c.loop-key-item.is c.as_str.ensures [] c.loop-key.joined.items inv.0
+          c.add_key.new.joined.items c.in_ok-add_key.ensures.answer,
+      (c.in_ok-add_key.ensures.keeps.0 ∙ inv.1.0, λ kept k. c.in_ok-add_key.ensures.keeps.1 kept (inv.1.1 kept k)),
+    )
 
-pub expand_item-expand_items-requires : goal.expand_item-expand_items-requires
-expand_item-expand_items-requires t c = (search (rules, the_lemmas), sym (plain_list c.in-List.inner) ∙ ap is_plain (sym c.in-List.is) ∙ c.requires)
+pub expand_keyed-returns-in_err-add_key-clause-answer : goal.expand_keyed-returns-in_err-add_key-clause-answer
+expand_keyed-returns-in_err-add_key-clause-answer g t c =
+    let inv = c.loop-key.invariant in
+    let ends : Refuses c.in_err-add_key.field-0.0 ((keyed_becomes (map (entry_beside (option_copied c.args.place.now.base)) c.args.entries.now.0) (placed g.C.Kept.View.flat c.args.place.now)).run (g.C.Contexts.stock c.args.contexts.now)).result =
+    keyed_refuses (g.C.Contexts.stock c.args.contexts.now) c.containers_of-containers.result (map (entry_beside (option_copied c.args.place.now.base)) c.args.entries.now.0) (placed g.C.Kept.View.flat c.args.place.now)
+    (c.containers_of-containers.ensures ∙ ap containers_of c.property_def.ensures) c.in_err-add_key.field-0.0
+    (entry_refuses (g.C.Contexts.stock c.args.contexts.now) (g.C.Contexts.stock c.loop-key.contexts) inv.1.0 (add_key c.containers_of-containers.result (placed g.C.Kept.View.flat c.args.place.now)) (option_copied c.args.place.now.base)
+    c.args.entries.now.0 c.as_slice-key-items.result.now c.loop-key.key-index c.loop-key-item.result c.as_str.result.now c.loop-key-test.true c.loop-key-item.is c.as_str.ensures [] c.loop-key.joined.items inv.0
+    c.in_err-add_key.field-0.0 c.in_err-add_key.ensures.answer) in
+    search (rules, ends)
 
-pub expand_entries-expand_entry-requires : goal.expand_entries-expand_entry-requires
-expand_entries-expand_entry-requires t c = (
-  search (rules, the_lemmas),
-  here_passes (λ e. is_plain_entry true (e.0, (e.1, is_plain e.1))) c.as_slice-name-items.result.now c.loop-name.name-index c.loop-name-item.result c.loop-name-test.true c.loop-name-item.is c.loop-name.invariant.1,
-)
-
-pub expand_element-returns-in_ok-expand_items-in-List : goal.expand_element-returns-in_ok-expand_items-in-List
-expand_element-returns-in_ok-expand_items-in-List t c =
-    list_comes c.args.element.now c.in-List.items c.new-joined.result.items c.from_vec.result (option_copied c.args.active_property) c.in-List.is c.new-joined.ensures.items (c.from_vec.ensures ∙ c.in_ok-expand_items-in-List.ensures)
-
-pub expand_entries-from_sorted-requires : goal.expand_entries-from_sorted-requires
-expand_entries-from_sorted-requires t c =
-    in_order_all c.loop-name.expanded.items c.as_slice-name-items.result.now c.args.entries.now.0 c.loop-name.name-index c.loop-name.invariant.0 c.loop-name-test.false c.as_slice-name-items.ensures.in_order
-
-pub expand_item-returns-in-List : goal.expand_item-returns-in-List
-expand_item-returns-in-List t c =
-    subst (λ more. OnOk c.expand_items.result (c.expand_items.new.joined.items ≡ c.args.joined.now.items ++ more)) (list_adds c.args.item.now c.in-List.inner (option_copied c.args.active_property) c.in-List.is) c.expand_items.ensures
-
-pub expand_item-returns-in_ok-push-in_default : goal.expand_item-returns-in_ok-push-in_default
-expand_item-returns-in_ok-push-in_default t c =
-    c.in_ok-push-in_default.ensures.items
-    ∙ ap (λ more. c.args.joined.now.items ++ more) (single_adds c.args.item.now (option_copied c.args.active_property) c.in-Some.expanded c.in_default.not-List (sym c.in_ok-expanded-in_default.ensures ∙ c.in-Some.is))
-
-pub expand_value-returns-in_ok-try_copy-in-IdKeyword : goal.expand_value-returns-in_ok-try_copy-in-IdKeyword
-expand_value-returns-in_ok-try_copy-in-IdKeyword t c =
-    ap (λ v. Some v) c.in_ok-try_copy-in-IdKeyword.ensures
-    ∙ kept_comes c.args.name.now c.args.value.now c.meaning_of.result (c.meaning_of.ensures ∙ ap meaning_of c.as_str.ensures) c.in-IdKeyword.is c.requires
-
-pub expand_value-returns-in_ok-as_list-in-TypeKeyword : goal.expand_value-returns-in_ok-as_list-in-TypeKeyword
-expand_value-returns-in_ok-as_list-in-TypeKeyword t c =
-    ap (λ v. Some v) (c.in_ok-as_list-in-TypeKeyword.ensures ∙ ap (λ v. list_of (items_of v)) c.in_ok-try_copy-in-TypeKeyword.ensures)
-    ∙ types_come c.args.name.now c.args.value.now (sym c.in-TypeKeyword.is ∙ c.meaning_of.ensures ∙ ap meaning_of c.as_str.ensures) c.requires
+pub expand_keyed-returns-clause-answer : goal.expand_keyed-returns-clause-answer
+expand_keyed-returns-clause-answer g t c =
+    let step = add_key c.containers_of-containers.result (placed g.C.Kept.View.flat c.args.place.now) in
+    let base = option_copied c.args.place.now.base in
+    let all : ((each step (map (entry_beside base) c.args.entries.now.0) []).run (g.C.Contexts.stock c.args.contexts.now)).result ≡ Ok c.loop-key.joined.items =
+    c.loop-key.invariant.0
+    ∙ ap (λ l. ((each step (map (entry_beside base) l) c.loop-key.joined.items).run (g.C.Contexts.stock c.args.contexts.now)).result) (drop_of_length-le c.as_slice-key-items.result.now c.loop-key-test.false) in
+    keyed_gives (g.C.Contexts.stock c.args.contexts.now) c.containers_of-containers.result (map (entry_beside (option_copied c.args.place.now.base)) c.args.entries.now.0) (placed g.C.Kept.View.flat c.args.place.now)
+    (c.containers_of-containers.ensures ∙ ap containers_of c.property_def.ensures) c.loop-key.joined.items all
+    ∙ ap (λ l. Ok (Some l)) (ap list_of (sym c.from_vec.ensures) ∙ V.rolls-List c.from_vec.result)

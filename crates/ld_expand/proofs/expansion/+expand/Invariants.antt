@@ -1,17 +1,25 @@
-use Rattle.std.proofs.Common.{◌≡◌, ◌++◌, true, drop}
-use Rattle.std.specs.Prelude.{filter_map, flat_map, option_copied}
-use Rattle.std.specs.List.{list_all}
-use Rattle.ld_expand.specs.Plain.{is_plain, is_plain_entry}
-use Rattle.ld_expand.specs.Expansion.{expansion, expanded_entry, items_in}
+use Rattle.std.proofs.Common.{◌≡◌, drop, map, []}
+use Rattle.std.specs.Prelude.{option_copied}
+use Rattle.ld_tree.specs.Maps.{empty}
+use Rattle.ld_rec.specs.Outcome.{each}
+use Rattle.ld_rec.specs.Expansion.{add_item, add_key, by_entry}
+use Rattle.ld_expand.specs.Steps.{Keeps, placed, seen, beside, entry_beside}
 use Rattle.ld_expand.proofs.expansion.+expand.Given as goal
 
-abbrev pub invariant-expand_items-loop-item : goal.invariant-expand_items-loop-item
-invariant-expand_items-loop-item l =
-    (l.joined.items ++ flat_map (λ t. items_in (expansion t (option_copied l.active_property))) (drop l.item-index l.item-items)
-    ≡ l.initial.joined.items ++ flat_map (λ t. items_in (expansion t (option_copied l.active_property))) l.items)
-    × (list_all is_plain (drop l.item-index l.item-items) ≡ true)
+abbrev pub invariant-expand_list-loop-item : goal.invariant-expand_list-loop-item
+invariant-expand_list-loop-item g l =
+    (((each (add_item l.containers (placed g.C.Kept.View.flat l.place)) (map (beside (option_copied l.place.base)) l.items) []).run (g.C.Contexts.stock l.initial.contexts)).result
+    ≡ ((each (add_item l.containers (placed g.C.Kept.View.flat l.place)) (map (beside (option_copied l.place.base)) (drop l.item-index l.item-items)) l.joined.items).run (g.C.Contexts.stock l.initial.contexts)).result)
+    × Keeps g.C.Contexts.stock g.C.Contexts.gave l.initial.contexts l.contexts
 
-abbrev pub invariant-expand_entries-loop-name : goal.invariant-expand_entries-loop-name
-invariant-expand_entries-loop-name l =
-    (l.expanded.items ++ filter_map expanded_entry (drop l.name-index l.name-items) ≡ filter_map expanded_entry l.entries.0)
-    × (list_all (λ e. is_plain_entry true (e.0, (e.1, is_plain e.1))) (drop l.name-index l.name-items) ≡ true)
+abbrev pub invariant-expand_keyed-loop-key : goal.invariant-expand_keyed-loop-key
+invariant-expand_keyed-loop-key g l =
+    (((each (add_key l.containers (placed g.C.Kept.View.flat l.place)) (map (entry_beside (option_copied l.place.base)) l.entries.0) []).run (g.C.Contexts.stock l.initial.contexts)).result
+    ≡ ((each (add_key l.containers (placed g.C.Kept.View.flat l.place)) (map (entry_beside (option_copied l.place.base)) (drop l.key-index l.key-items)) l.joined.items).run (g.C.Contexts.stock l.initial.contexts)).result)
+    × Keeps g.C.Contexts.stock g.C.Contexts.gave l.initial.contexts l.contexts
+
+abbrev pub invariant-expand_node-loop-name : goal.invariant-expand_node-loop-name
+invariant-expand_node-loop-name g l =
+    (((each (by_entry (seen g.C.Kept.View.flat l.node)) (map (entry_beside (option_copied l.node.base)) l.entries.0) empty).run (g.C.Contexts.stock l.initial.contexts)).result
+    ≡ ((each (by_entry (seen g.C.Kept.View.flat l.node)) (map (entry_beside (option_copied l.node.base)) (drop l.name-index l.name-items)) l.made).run (g.C.Contexts.stock l.initial.contexts)).result)
+    × Keeps g.C.Contexts.stock g.C.Contexts.gave l.initial.contexts l.contexts

@@ -1,0 +1,4 @@
+pub mod Levels
+pub mod Protected
+pub mod Telling
+pub mod Terms

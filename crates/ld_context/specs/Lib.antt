@@ -1,0 +1,5 @@
+pub mod Calls
+pub mod Counts
+pub mod Kept
+pub mod Starts
+pub mod Tells

@@ -1,0 +1,33 @@
+//! Context Processing (JSON-LD 1.1 Processing Algorithms and API, section 4.1.2) over a stock of documents.
+//!
+//! - [`process`] processes a local context over an active context, with remote contexts and imports out of the
+//!   stock. It gives exactly ld_rec's `processed`: its context, its code, its own refusal, or the first document that
+//!   the stock lacks.
+//! - [`Runs`] tells what that took: how many invocations of the algorithm, and which documents were asked for.
+//!
+//! The active context is copied once, and then handed from item to item and from invocation to invocation. A
+//! document's context is read where it stands in the stock; for `@import` a map of both is made. A scoped context is
+//! tried over a copy of the context that is being made.
+//!
+//! To be believed, since the public clauses speak by it: `specs/Counts.antt` (what is told but at want of memory). The
+//! code's own: `specs/Tells.antt` and `specs/Calls.antt`, by which the functions of the algorithm, which call one
+//! another in a cycle, say what they do to `Runs` and answer. The modules, from below: runs, inputs, null (steps 2, 3
+//! and 5.1), remote (5.2.1 to 5.2.5), keywords (5.5 and 5.7 to 5.11), import (5.6), walk.
+#![tactic(auto)]
+
+mod import;
+mod inputs;
+mod kept;
+mod keywords;
+mod null;
+mod plain;
+mod remote;
+mod runs;
+mod term;
+mod walk;
+
+pub use inputs::{Call, Inputs, Progress};
+pub use kept::Kept;
+pub use plain::Plain;
+pub use runs::Runs;
+pub use walk::process;

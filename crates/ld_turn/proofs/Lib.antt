@@ -1,0 +1,9 @@
+mod Small
+mod Stages
+mod Counting
+mod Owning
+mod Keeping
+mod Turning
+mod Numbering
+mod Sitting
+mod Rows

@@ -1,0 +1,6 @@
+use Rattle.std.proofs.Common.{rules}
+use Rattle.ld_turn.proofs.Keeping.{rings}
+use Rattle.ld_turn.proofs.lock.TurnLock.wake.Goals as goal
+
+pub store-requires : goal.store-requires
+store-requires g c = (search rules, search rules, rings g.V.Told.list g.V.Told.seat_of _ _ _ _ 0 (λ _. 0) c.requires.bell.0)

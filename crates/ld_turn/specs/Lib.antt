@@ -1,0 +1,6 @@
+pub mod Known
+pub mod History
+pub mod Views
+pub mod Rule
+pub mod Steps
+pub mod Lending
