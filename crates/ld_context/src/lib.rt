@@ -1,18 +1,21 @@
 //! Context Processing (JSON-LD 1.1 Processing Algorithms and API, section 4.1.2) over a stock of documents.
 //!
-//! - [`process`] processes a local context over an active context, with remote contexts and imports out of the
-//!   stock. It gives exactly ld_rec's `processed`: its context, its code, its own refusal, or the first document that
-//!   the stock lacks.
+//! - [`process`] processes a local context over an active context, with remote contexts and imports out of the stock.
+//!   It gives exactly ld_rec's `processed`: its context, its code, its own refusal, or the first document that the
+//!   stock lacks.
 //! - [`Runs`] tells what that took: how many invocations of the algorithm, and which documents were asked for.
+//! - [`Plain`] gives contexts over a stock to whoever asks through ld_ctx's `Contexts`, and processes each anew. Its
+//!   contexts are [`Kept`]: shared by their copies.
 //!
 //! The active context is copied once, and then handed from item to item and from invocation to invocation. A
 //! document's context is read where it stands in the stock; for `@import` a map of both is made. A scoped context is
-//! tried over a copy of the context that is being made.
+//! tried over a copy of the context that is being made: many scoped contexts among many terms cost the product.
 //!
-//! To be believed, since the public clauses speak by it: `specs/Counts.antt` (what is told but at want of memory). The
-//! code's own: `specs/Tells.antt` and `specs/Calls.antt`, by which the functions of the algorithm, which call one
-//! another in a cycle, say what they do to `Runs` and answer. The modules, from below: runs, inputs, null (steps 2, 3
-//! and 5.1), remote (5.2.1 to 5.2.5), keywords (5.5 and 5.7 to 5.11), import (5.6), walk.
+//! To be believed, since the public clauses speak by them: `specs/Counts.antt` (what is told but at want of memory) and
+//! `specs/Kept.antt` (the context that a `Kept` stands for). The code's own: `specs/Tells.antt`, `specs/Calls.antt` and
+//! `specs/Starts.antt`, by which the functions of the algorithm, which call one another in a cycle, say what they do to
+//! `Runs` and answer. The modules, from below: runs, inputs, null (steps 2, 3 and 5.1), remote (5.2.1 to 5.2.5),
+//! keywords (5.5 and 5.7 to 5.11), import (5.6), term (5.13), walk, kept, plain.
 #![tactic(auto)]
 
 mod import;
