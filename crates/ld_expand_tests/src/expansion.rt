@@ -69,10 +69,7 @@ fn values_lists_and_sets(rt: HostRuntime) {
             r#"{"http://e/p":{"@type":"@json","@value":{"b":[1,null]}}}"#,
             r#"[{"http://e/p":[{"@type":"@json","@value":{"b":[1,null]}}]}]"#,
         ),
-        (
-            r#"{"http://e/p":{"@value":null}}"#,
-            r#"[]"#,
-        ),
+        (r#"{"http://e/p":{"@value":null}}"#, r#"[]"#),
     ];
     all_expand(&rt, rt.alloc(), &rows);
 }
