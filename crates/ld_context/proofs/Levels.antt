@@ -1,5 +1,5 @@
 -- One level of processing, and items apart from the rest of their invocation.
-use Rattle.std.proofs.Common.{◌≡◌, ℕ, zero, suc, ◌+◌, ◌-◌, ◌<◌, refl, sym, ap, ap₂, ◌∙◌, List, Option, Some, None, Bool, arith}
+use Rattle.std.proofs.Common.{◌≡◌, ℕ, zero, suc, ◌+◌, ◌-◌, ◌<◌, refl, sym, ap, ap₂, ◌∙◌, List, Option, Some, None, Bool, true, false, arith}
 use Rattle.ld_codes.specs.declared.own.Own.TheVariants.{NestingLimit}
 use Rattle.ld_tree.specs.declared.tree.Tree.{Tree, out-Tree}
 use Rattle.ld_tree.specs.declared.tree.Tree.TheOpen.{Tree-F}
@@ -76,8 +76,7 @@ pub in_parts : (again : Again) (inputs : Inputs) (remote : List (List ℕ)) (act
     ≡ each (item_step again (item_ask (record { first_base = first_base; inputs = record inputs { propagate = propagate } })) propagate) items (record { context = context; remote = remote })
 in_parts again inputs remote active local first_base e propagate p context is items all = in_parts' again inputs remote active local propagate first_base (sym e) p context is items all
 
--- a scoped context's inputs, copied
-pub same_scoped : (rest : Rest) (local : Tree) (active copy : Context) (base : Option (List ℕ)) (remote : List (List ℕ)) → active ≡ copy → rest.base ≡ base → rest.remote ≡ remote
-    → scoped_ask rest active local ≡ record (scoped_ask rest copy local) { base = base; remote = remote }
-same_scoped rest local active copy base remote a b r =
-    ap (λ c. scoped_ask rest c local) a ∙ ap₂ (λ x y. record (scoped_ask rest copy local) { base = x; remote = y }) b r
+-- a scoped context's inputs
+pub same_scoped : (rest : Rest) (local : Tree) (a b : Context) (inputs : Inputs) (remote : List (List ℕ)) → a ≡ b
+    → inputs ≡ record { base = rest.base; over = true; propagate = true; validate = false; depth = rest.depth + 1 } → remote ≡ rest.remote → scoped_ask rest a local ≡ invocation inputs remote b local
+same_scoped rest local a b inputs remote e i r = ap (λ c. scoped_ask rest c local) e ∙ ap₂ (λ x y. invocation x y b local) (sym i) (sym r)

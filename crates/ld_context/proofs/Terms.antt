@@ -1,11 +1,12 @@
 -- A term on the way to be defined, with the scoped contexts that it waits for.
-use Rattle.std.proofs.Common.{◌≡◌, refl, sym, ap, ◌∙◌, ℕ, List, false, Result, Ok, Err}
+use Rattle.std.proofs.Common.{◌≡◌, refl, sym, ap, subst, ◌∙◌, ℕ, List, Bool, false, Result, Ok, Err}
 use Rattle.std.specs.Prelude.{if◌then◌else◌}
 use Rattle.ld_tree.specs.Names.{Sorted}
 use Rattle.ld_tree.specs.declared.tree.Tree.{Tree}
 use Rattle.ld_rec.specs.declared.stop.Stop.{Stop}
 use Rattle.ld_rec.specs.declared.stop.Stop.TheVariants as stop
-use Rattle.ld_rec.specs.Outcome.{Outcome, Stock, give, after}
+use Rattle.ld_codes.specs.declared.code.Code.TheVariants.{InvalidScopedContext}
+use Rattle.ld_rec.specs.Outcome.{Outcome, Stock, Refuses, give, after}
 use Rattle.ld_rec.specs.Processing.{unless_keyword, context_keywords}
 use Rattle.ld_rec.specs.Records.{Context}
 use Rattle.ld_rec.specs.Terms as terms
@@ -16,8 +17,10 @@ use Rattle.ld_term.specs.declared.run.Next.{Next}
 use Rattle.ld_term.specs.declared.run.Next.TheVariants as next
 use Rattle.ld_term.specs.declared.run.Waiting.{Waiting}
 use Rattle.ld_term.specs.NextSizes.{NextFits}
-use Rattle.ld_term.specs.Runs.{from_next, Resumes}
+use Rattle.ld_term.specs.Runs.{from_next, from_waiting, Resumes, scoped_stop}
 use Rattle.ld_term.proofs.Along.{value}
+use Rattle.ld_term.proofs.Resuming.{resumes_told}
+use Rattle.ld_context.specs.Counts.{UnlessNoMemory}
 use Rattle.ld_context.specs.declared.runs.Runs.{Runs}
 use Rattle.ld_context.specs.Starts.{term_outcome, left_outcome, Starts}
 use Rattle.ld_context.specs.Tells.{Tally, tallied, grown, Tells}
@@ -70,6 +73,34 @@ module _ (check : Check) (rest : terms.Rest) (local : Sorted Tree) (stock : Stoc
     resumed_err view rest' (stop.Code code) k = failed (stop.Code code) k
     resumed_err view rest' (stop.Own own) k = failed (stop.Own own) k
     resumed_err view rest' (stop.Missing iri) k = failed (stop.Missing iri) k
+
+  -- ---- a scoped context is tried
+
+  abbrev pub outcome_on : Context → Waiting → Outcome Context
+  outcome_on context waiting = (check context waiting.ready.scoped).run stock
+
+  -- over the context as it was
+  pub moved : (a b : Context) (table : Sorted Bool) (waiting : Waiting) (result : Result Next Stop) (g : Next → Outcome Made) → a ≡ b
+      → ((c : Context) → (outcome_on a waiting).result ≡ Ok c → Resumes g result (outcome_on a waiting) (left_outcome check rest local (next.Check waiting) (record { context = a; table = table }) stock))
+      → (c : Context) → (outcome_on b waiting).result ≡ Ok c → Resumes g result (outcome_on b waiting) (left_outcome check rest local (next.Check waiting) (record { context = b; table = table }) stock)
+  moved a b table waiting result g e h =
+      subst (λ x. (c : Context) → (outcome_on x waiting).result ≡ Ok c → Resumes g result (outcome_on x waiting) (left_outcome check rest local (next.Check waiting) (record { context = x; table = table }) stock)) e h
+
+  -- it fails, and so does the definition
+  module _ (old mid : Runs) (made : Made) (waiting : Waiting) (whole : Tally Made) (before : Next) (is : before ≡ next.Check waiting) (same : whole ≡ tallied old (left_outcome check rest local before made stock)) where
+    scoped_fails : (e e' : Stop) → mid ≡ grown old (outcome_on made.context waiting).runs (outcome_on made.context waiting).reads
+        → (from_waiting check rest local waiting made).run stock ≡ record { runs = (outcome_on made.context waiting).runs; reads = (outcome_on made.context waiting).reads; result = Err e' } → whole ≡ record { runs = mid; result = Err e' }
+    scoped_fails e e' counted k = failed old mid made made waiting waiting.ready.scoped whole (outcome_on made.context waiting) counted before is same e' (left_is (next.Check waiting) made ∙ k)
+
+    g : Next → Outcome Made
+    g n = left_outcome check rest local n made stock
+
+    pub refused_scoped : {B : Type 0} (view : B → Made) (e : Stop) → UnlessNoMemory {A = Unit {0}} (Err e) (mid ≡ grown old (outcome_on made.context waiting).runs (outcome_on made.context waiting).reads)
+        → Refuses e (outcome_on made.context waiting).result → Tells view mid (Err (scoped_stop e)) whole
+    refused_scoped view stop.NoMemory counted refuses = tt
+    refused_scoped view (stop.Code code) counted refuses = scoped_fails (stop.Code code) (stop.Code InvalidScopedContext) counted (resumes_told check rest local waiting made stock g (stop.Code code) refuses)
+    refused_scoped view (stop.Own own) counted refuses = scoped_fails (stop.Own own) (stop.Own own) counted (resumes_told check rest local waiting made stock g (stop.Own own) refuses)
+    refused_scoped view (stop.Missing iri) counted refuses = scoped_fails (stop.Missing iri) (stop.Missing iri) counted (resumes_told check rest local waiting made stock g (stop.Missing iri) refuses)
 
 -- ---- the two calls, over one stock
 

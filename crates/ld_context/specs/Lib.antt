@@ -3,3 +3,4 @@ pub mod Counts
 pub mod Kept
 pub mod Starts
 pub mod Tells
+pub mod Trials

@@ -3,11 +3,13 @@ use crate::kept::Kept;
 use crate::runs::Runs;
 use crate::walk::process_with;
 use ld_ctx::{Ask, Contexts, Ctx, Stock};
+use ld_inverse::{BuildTicket, Inverse, Inverses, build};
 use ld_rec::Stop;
 use ld_tree::NoMemory;
 use std::alloc::Global;
+use std::sync::Arc;
 
-/// Gives contexts over a stock, and keeps none: each is processed anew.
+/// Gives contexts and inverse contexts over a stock, and keeps none: each is made anew.
 #[derive(Debug, Drop)]
 pub struct Plain<'a> {
     stock: &'a Stock,
@@ -95,4 +97,16 @@ impl<'a> Contexts for Plain<'a> {
     ghost gave_behind = { λ plain kept gave previous is. tt };
 
     ghost gave_copies = { λ plain kept copy gave is. tt };
+}
+
+impl<'a> Inverses for Plain<'a> {
+    fn inverse(&mut self, alloc: Global, kept: &Kept) -> Result<Arc<Inverse>, NoMemory> {
+        match build(alloc, BuildTicket::own(), kept) {
+            Ok(inverse) => Ok(inverse),
+            Err((ticket, e)) => {
+                let _ = ticket.end();
+                Err(e)
+            }
+        }
+    }
 }

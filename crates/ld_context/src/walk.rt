@@ -1,4 +1,4 @@
-ghost use Rattle.std.specs.Prelude.{◌≡◌, ◌+◌, ◌-◌, ◌^◌, ◌++◌, ◌∷◌, [], min, IfOk, Some, option_copied};
+ghost use Rattle.std.specs.Prelude.{◌≡◌, ◌≤◌, ◌+◌, ◌-◌, ◌^◌, ◌++◌, ◌∷◌, [], min, true, false, IfOk, OnOk, Some, option_copied};
 ghost use Rattle.ld_tree.specs.Maps.{empty};
 ghost use Rattle.ld_tree.specs.declared.tree.Tree.{out-Tree};
 ghost use Rattle.ld_tree.specs.declared.tree.Tree.TheOpen.{Tree-F};
@@ -14,6 +14,7 @@ ghost use Rattle.ld_context.specs.Calls.{invocation, item_ask, progress_of, with
 ghost use Rattle.ld_context.specs.Counts.{UnlessNoMemory};
 ghost use Rattle.ld_context.specs.Starts.{term_outcome};
 ghost use Rattle.ld_context.specs.Tells.{Tells, grown, tallied};
+ghost use Rattle.ld_context.specs.Trials.{own_entries};
 
 use crate::import::imported_from;
 use crate::inputs::{Call, Inputs, Progress, copy_iri, copy_names};
@@ -22,13 +23,14 @@ use crate::null::{begun, first_base_of, is_propagated, nullified};
 use crate::remote::{base_of, context_in, is_among, loadable, looked};
 use crate::runs::{Runs, count_one};
 use crate::term::{go_on, start};
+use crate::trial::{former_of, own_entries, undone};
 use ld_codes::{Code, Own};
 use ld_ctx::{Ask, Ctx, Names, Stock, View};
 use ld_rec::{Doc, Stop};
-use ld_term::{Defined, Next, Rest};
+use ld_term::{Defined, Next, Rest, scoped_stop};
 use ld_tree::{Entries, Iri, NameMap, NoMemory, Text, Tree};
 use std::alloc::Global;
-use std::slice;
+use std::{mem, slice};
 
 // One more than the levels that invocations may lie within one another.
 const LEVELS: u32 = 33;
@@ -375,6 +377,20 @@ fn rest_in(alloc: Global, call: &Call, remote: &Names, protected: bool) -> Resul
     })
 }
 
+// What a scoped context is processed with: one level deeper, with leave to override, and not validated further.
+fn scoped_inputs(alloc: Global, rest: &Rest) -> Result<Inputs, NoMemory>
+    requires { rest.now.depth ≤ 32 }
+    ensures { IfOk result (λ inputs. inputs ≡ record { base = rest.now.base; over = true; propagate = true; validate = false; depth = rest.now.depth + 1 }) }
+{
+    Ok(Inputs {
+        base: copy_iri(alloc, &rest.base)?,
+        over: true,
+        propagate: true,
+        validate: false,
+        depth: rest.depth + 1,
+    })
+}
+
 // Whether the name is one of those of a context's own entries.
 fn is_context_keyword(name: &str) -> bool
     ensures { result ≡ is_among context_keywords name.now }
@@ -510,8 +526,12 @@ fn define_term(
         match next {
             Next::Done => return Ok(()),
             Next::Check(waiting) => {
-                let outcome = scoped(alloc, stock, runs, made, waiting.scoped(), rest, levels)?;
-                match go_on(alloc, made, entries, waiting, defined, rest, outcome) {
+                match check_scoped(alloc, stock, runs, made, waiting.scoped(), rest, levels) {
+                    Ok(()) => {}
+                    // what was made of the context goes with the definition
+                    Err(e) => return Err(scoped_stop(e)),
+                }
+                match go_on(alloc, made, entries, waiting, defined, rest) {
                     Ok(after) => next = after,
                     Err(e) => return Err(e),
                 }
@@ -520,10 +540,63 @@ fn define_term(
     }
 }
 
-// Step 21.3 of Create Term Definition (4.2.2): what comes of a scoped context over a copy of the context that is being
-// made.
+// Step 21.3 of Create Term Definition (4.2.2): what comes of a scoped context over the context that is being made, which
+// is as it was after it. After an error it isn't: an error ends the whole invocation, and nobody sees the context again.
 #[cycle(process)]
-fn scoped(
+fn check_scoped(
+    alloc: Global,
+    stock: &Stock,
+    runs: &mut Runs,
+    made: &mut Ctx,
+    local: &Tree,
+    rest: &Rest,
+    levels: u32,
+) -> Result<(), Stop>
+    requires { levels + rest.now.depth ≡ 32 }
+    ensures told { Told result ((check_by (processed_in levels) (rest_of rest.now) (flat made.old) local.now).run stock.now).result }
+    ensures counted { UnlessNoMemory result (let checked = (check_by (processed_in levels) (rest_of rest.now) (flat made.old) local.now).run stock.now in runs.new ≡ grown runs.old checked.runs checked.reads) }
+    ensures same { OnOk result (flat made.new ≡ flat made.old) }
+{
+    match own_entries(local) {
+        Some(entries) => check_in_place(alloc, stock, runs, made, local, entries, rest, levels),
+        None => check_on_copy(alloc, stock, runs, made, local, rest, levels),
+    }
+}
+
+// A scoped context that changes no more than a `Former` keeps: no other definition is copied.
+#[cycle(process)]
+fn check_in_place(
+    alloc: Global,
+    stock: &Stock,
+    runs: &mut Runs,
+    made: &mut Ctx,
+    local: &Tree,
+    entries: &Entries<Tree>,
+    rest: &Rest,
+    levels: u32,
+) -> Result<(), Stop>
+    requires depth { levels + rest.now.depth ≡ 32 }
+    requires own { Some entries.now ≡ own_entries (out-Tree local.now) }
+    ensures told { Told result ((check_by (processed_in levels) (rest_of rest.now) (flat made.old) local.now).run stock.now).result }
+    ensures counted { UnlessNoMemory result (let checked = (check_by (processed_in levels) (rest_of rest.now) (flat made.old) local.now).run stock.now in runs.new ≡ grown runs.old checked.runs checked.reads) }
+    ensures same { OnOk result (flat made.new ≡ flat made.old) }
+{
+    let former = former_of(alloc, made, entries)?;
+    let remote = copy_names(alloc, &rest.remote)?;
+    let inputs = scoped_inputs(alloc, rest)?;
+    let active = mem::replace(made, Ctx::fresh(alloc, None)?);
+    match process_in(alloc, stock, runs, active, local, remote, inputs, levels) {
+        Ok(ctx) => {
+            *made = undone(ctx, former)?;
+            Ok(())
+        }
+        Err(e) => Err(e),
+    }
+}
+
+// Any other scoped context.
+#[cycle(process)]
+fn check_on_copy(
     alloc: Global,
     stock: &Stock,
     runs: &mut Runs,
@@ -531,24 +604,17 @@ fn scoped(
     local: &Tree,
     rest: &Rest,
     levels: u32,
-) -> Result<Result<(), Stop>, NoMemory>
+) -> Result<(), Stop>
     requires { levels + rest.now.depth ≡ 32 }
-    ensures told { IfOk result (λ outcome. Told outcome ((check_by (processed_in levels) (rest_of rest.now) (flat made.now) local.now).run stock.now).result) }
-    ensures counted { IfOk result (λ _. let checked = (check_by (processed_in levels) (rest_of rest.now) (flat made.now) local.now).run stock.now in runs.new ≡ grown runs.old checked.runs checked.reads) }
+    ensures told { Told result ((check_by (processed_in levels) (rest_of rest.now) (flat made.now) local.now).run stock.now).result }
+    ensures counted { UnlessNoMemory result (let checked = (check_by (processed_in levels) (rest_of rest.now) (flat made.now) local.now).run stock.now in runs.new ≡ grown runs.old checked.runs checked.reads) }
 {
     let active = made.try_copy(alloc)?;
     let remote = copy_names(alloc, &rest.remote)?;
-    let inputs = Inputs {
-        base: copy_iri(alloc, &rest.base)?,
-        over: true,
-        propagate: true,
-        validate: false,
-        depth: rest.depth + 1,
-    };
+    let inputs = scoped_inputs(alloc, rest)?;
     match process_in(alloc, stock, runs, active, local, remote, inputs, levels) {
-        Ok(_) => Ok(Ok(())),
-        Err(Stop::NoMemory) => Err(NoMemory),
-        Err(e) => Ok(Err(e)),
+        Ok(_) => Ok(()),
+        Err(e) => Err(e),
     }
 }
 
@@ -577,8 +643,9 @@ pub fn process_with(
 ///
 /// An error is the algorithm's code, `nesting limit` for more than 32 invocations within one another or more than 32
 /// previous contexts, `outside profile` for a keyword that this profile leaves out, or the first document asked for
-/// that the stock lacks. Takes time near linear in the contexts and in the documents asked for, but for scoped
-/// contexts: each is tried over a copy of the context that is being made.
+/// that the stock lacks. Takes time near linear in the contexts and in the documents asked for, but for the scoped
+/// contexts that are tried over a copy of the context that is being made (null, texts, lists, and maps with `@import`
+/// or not propagated), and for the definitions that scoped contexts put others in place of: those are copied.
 pub fn process(alloc: Global, ask: &Ask<Ctx>, stock: &Stock, runs: &mut Runs) -> Result<Ctx, Stop>
     ensures answer { GivesAs flat result (processed stock.now (asked flat ask.now)).result }
     ensures count { UnlessNoMemory result (runs.new.count ≡ min (runs.old.count + (processed stock.now (asked flat ask.now)).runs) (2 ^ 64 - 1)) }

@@ -1,6 +1,7 @@
 use crate::helpers::{ask, mapping, named, processed, stock, tree};
 use ld_context::{Plain, Runs, process};
-use ld_ctx::{Ask, Contexts, View};
+use ld_ctx::{Ask, Containers, Contexts, View};
+use ld_inverse::{Inverses, Kind};
 use ld_tree::{Entries, Items, Text, Tree};
 use std::process::Abort;
 
@@ -166,6 +167,29 @@ fn a_long_chain_of_prefixes(rt: HostRuntime) {
 }
 
 #[test]
+fn many_terms_with_scoped_contexts(rt: HostRuntime) {
+    let alloc = rt.alloc();
+    let value = tree(
+        &rt,
+        alloc,
+        r#"{"@id":"http://e/t","@context":{"@vocab":"http://v/","u":"http://e/u"}}"#,
+    );
+    let mut map = Entries::new(alloc);
+    for place in 0..50_000_u32 {
+        let name = format!(in alloc; "t{place:05}").expect(&rt, "memory");
+        let copy = value.try_copy(alloc).expect(&rt, "memory");
+        map.put(Text::from_string(name), copy)
+            .map_err(|_| "memory")
+            .expect(&rt, "memory");
+    }
+    let ask = ask(&rt, alloc, Tree::Map(map));
+    let stock = stock(&rt, alloc, &[]);
+    let answer = process(alloc, &ask, &stock, &mut Runs::new(alloc));
+    assert_eq!(rt; mapping(&answer, "t49999"), Some("http://e/t"));
+    assert_eq!(rt; mapping(&answer, "u"), None);
+}
+
+#[test]
 fn plain_gives_contexts_and_takes_them_again(rt: HostRuntime) {
     let alloc = rt.alloc();
     let stock = stock(
@@ -207,4 +231,36 @@ fn plain_gives_contexts_and_takes_them_again(rt: HostRuntime) {
     assert!(rt; made.def("n").is_none());
     assert_eq!(rt; plain.runs().count, 3);
     assert_eq!(rt; plain.runs().read.as_slice().len(), 1);
+}
+
+#[test]
+fn plain_gives_the_inverse_of_a_context(rt: HostRuntime) {
+    let alloc = rt.alloc();
+    let stock = stock(&rt, alloc, &[]);
+    let mut plain = Plain::new(alloc, &stock);
+    let ask = Ask {
+        active: plain.fresh(alloc, None).expect(&rt, "memory"),
+        local: tree(&rt, alloc, r#"{"n":"http://e/n"}"#),
+        base: None,
+        remote: Items::new(alloc),
+        over: false,
+        propagate: true,
+        validate: true,
+        depth: 1,
+    };
+    let made = plain.context(alloc, ask).expect(&rt, "a context");
+    let inverse = plain.inverse(alloc, &made).expect(&rt, "memory");
+    let none = Containers {
+        graph: false,
+        id: false,
+        index: false,
+        language: false,
+        list: false,
+        set: false,
+        types: false,
+    };
+    assert_eq!(rt;
+        inverse.select("http://e/n", &[none], Kind::Tag, &["@null", "@none"]),
+        Some("n")
+    );
 }

@@ -11,3 +11,8 @@ pub mod Places
 pub mod Values
 pub mod Expansion
 pub mod Form
+pub mod Slots
+pub mod Selection
+pub mod Prefixes
+pub mod Wishes
+pub mod Compacting

@@ -4,8 +4,9 @@ ghost use Rattle.ld_rec.specs.Records.{same_iri, same_value, same_scope, same_de
 use ld_tree::{Iri, NoMemory, Text, Tree};
 use std::alloc::Global;
 
-/// A container mapping, as the set of its keywords (JSON-LD 1.1, 9.15). `types` stands for `@type`.
-#[derive(Clone, Copy, Debug, PartialEq, Eq)]
+/// A container mapping, as the set of its keywords (JSON-LD 1.1, 9.15). `types` stands for `@type`. The order
+/// is keyword by keyword, and is of use to sort by alone.
+#[derive(Clone, Copy, Debug, PartialEq, Eq, PartialOrd, Ord)]
 pub struct Containers {
     pub graph: bool,
     pub id: bool,

@@ -36,5 +36,5 @@ mod words;
 
 pub use half::{Aim, Before, Half, Ready, Step, Task, Wait};
 pub use rest::Rest;
-pub use run::{Next, Waiting, define, resume};
+pub use run::{Next, Waiting, define, resume, scoped_stop};
 pub use table::Defined;

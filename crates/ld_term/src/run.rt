@@ -246,8 +246,9 @@ fn settle(
     put_closed(alloc, made, defined, rest, &entries, task)
 }
 
-// A code becomes `invalid scoped context`.
-fn scoped_stop(stop: Stop) -> Stop
+/// The error of a definition whose scoped context ends in an error: a code becomes `invalid scoped context`
+/// (JSON-LD 1.1 API, 4.2.2, step 21.3).
+pub fn scoped_stop(stop: Stop) -> Stop
     ensures { result ≡ scoped_stop stop }
 {
     match stop {

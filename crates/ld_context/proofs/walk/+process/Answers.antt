@@ -1,4 +1,4 @@
-use Rattle.std.proofs.Common.{◌≡◌, refl, sym, ap, ◌∙◌, subst, ◌+◌, ◌-◌, ◌<◌, ◌∷◌, drop, false, Err, arith}
+use Rattle.std.proofs.Common.{◌≡◌, refl, sym, ap, ◌∙◌, subst, ◌+◌, ◌-◌, ◌<◌, ◌∷◌, drop, false, Ok, Err, arith}
 use Rattle.std.specs.Prelude.{codes}
 use Rattle.ld_codes.specs.declared.own.Own.TheVariants.{NestingLimit}
 use Rattle.ld_tree.specs.Maps.{find}
@@ -6,19 +6,20 @@ use Rattle.ld_tree.specs.declared.tree.Tree.{out-Tree}
 use Rattle.ld_tree.specs.declared.tree.Tree.TheOpen.{Tree-F}
 use Rattle.ld_ctx.specs.Flat.{flat}
 use Rattle.ld_rec.specs.declared.stop.Stop.TheVariants as stop
-use Rattle.ld_rec.specs.Outcome.{each, give, continued, declines, ◌>>=◌}
+use Rattle.ld_rec.specs.Outcome.{Refuses, each, give, continued, declines, ◌>>=◌}
 use Rattle.ld_rec.specs.Records.{Context}
 use Rattle.ld_rec.specs.Processing.{scoped_ask, processed_in, process_step, item_step, by_item, keywords_in, protected_in, terms_in, check_by, unless_keyword, context_keywords, is_propagated, begun}
 use Rattle.ld_rec.specs.Words.{is_among, items_of, opened}
 use Rattle.ld_term.specs.Waits.{made_of, rest_of}
 use Rattle.ld_term.proofs.Forms.{null_out}
 use Rattle.ld_context.specs.Calls.{invocation, item_ask, progress_of}
-use Rattle.ld_term.specs.Runs.{Told}
-use Rattle.ld_context.specs.Starts.{term_outcome}
-use Rattle.ld_context.specs.Tells.{Tally, tallied, grown}
+use Rattle.ld_context.specs.Starts.{term_outcome, left_outcome}
+use Rattle.ld_context.specs.Counts.{UnlessNoMemory}
+use Rattle.ld_context.specs.Tells.{Tally, Tells, tallied, grown}
 use Rattle.ld_context.proofs.Levels.{at_no_level, at_level, in_parts, same_scoped}
 use Rattle.ld_context.proofs.Telling.{tells_along, tells_given, tells_passed, tells_then, tells_comes, tells_err, tallied_counted, tallied_refused, then_value, each_next, drop_next}
-use Rattle.ld_context.proofs.Terms.{resumed_ok, tells_done, not_keyword}
+use Rattle.ld_context.proofs.Terms.{resumed_ok, resumed_err, outcome_on, moved, refused_scoped, tells_done, not_keyword}
+use Rattle.ld_context.proofs.Undoing.{own_is, undone_scoped}
 use Rattle.ld_context.proofs.walk.+process.Goals as goal
 
 pub by_entries-returns-in_err-protected : goal.by_entries-returns-in_err-protected
@@ -50,15 +51,17 @@ define_term-loop-next-init t c = record {
 
 pub define_term-loop-next-preserved : goal.define_term-loop-next-preserved
 define_term-loop-next-preserved t c =
-    let check = check_by (processed_in c.args.levels) (rest_of c.args.rest.now) in
+    let r = rest_of c.args.rest.now in
+    let check = check_by (processed_in c.args.levels) r in
+    let es = c.args.entries.now in
     let m = made_of c.loop-next.made c.loop-next.defined in
     let w = c.in-Check.waiting in
-    let checked = (check m.context w.ready.scoped).run c.args.stock.now in
-    let told = subst (λ tree. Told c.in_ok-outcome-in-Check.outcome ((check m.context tree).run c.args.stock.now).result) c.scoped.ensures c.in_ok-outcome-in-Check.ensures.told in
-    let counted = subst (λ tree. c.scoped-in-Check.new.runs ≡ grown c.loop-next.runs ((check m.context tree).run c.args.stock.now).runs ((check m.context tree).run c.args.stock.now).reads) c.scoped.ensures c.in_ok-outcome-in-Check.ensures.counted in
+    let stock = c.args.stock.now in
+    let told = subst (λ tree. (x : Context) × (((check m.context tree).run stock).result ≡ Ok x)) c.scoped.ensures c.in-Ok-check_scoped.ensures.told in
+    let counted = subst (λ tree. c.check_scoped.new.runs ≡ grown c.loop-next.runs ((check m.context tree).run stock).runs ((check m.context tree).run stock).reads) c.scoped.ensures c.in-Ok-check_scoped.ensures.counted in
     record {
-      same = resumed_ok check (rest_of c.args.rest.now) c.args.entries.now c.args.stock.now c.loop-next.runs c.scoped-in-Check.new.runs m (made_of c.go_on.new.made c.go_on.new.defined) w w.ready.scoped _ checked counted c.loop-next.next c.in-Check.is c.loop-next.invariant.same
-          c.in-Ok-go_on.after (c.in-Ok-go_on.ensures.gives check c.args.stock.now told);
+      same = resumed_ok check r es stock c.loop-next.runs c.check_scoped.new.runs m (made_of c.go_on.new.made c.go_on.new.defined) w w.ready.scoped _ (outcome_on check r es stock m.context w) counted c.loop-next.next c.in-Check.is c.loop-next.invariant.same
+          c.in-Ok-go_on.after (moved check r es stock _ _ c.loop-next.defined w (Ok c.in-Ok-go_on.after) (λ n. left_outcome check r es n (made_of c.go_on.new.made c.go_on.new.defined) stock) c.in-Ok-check_scoped.ensures.same (c.in-Ok-go_on.ensures.gives check stock) told.0 told.1);
       fits = c.in-Ok-go_on.ensures.fits;
     }
 
@@ -159,10 +162,57 @@ process_step-returns t c =
     tells_err flat c.each_item.new.runs progress_of c.args.runs.now ((each (item_step again ask p) (items_of local) (record { context = begun p active; remote = c.args.remote })).run c.args.stock.now) (λ a. (give a.context).run c.args.stock.now) c.in-Err.e
     (tells_along progress_of c.each_item.new.runs (Err c.in-Err.e) _ _ (ap (λ o. tallied c.args.runs.now (o.run c.args.stock.now)) e) c.in-Err.ensures)
 
-pub scoped-returns-in-Ok-clause-told : goal.scoped-returns-in-Ok-clause-told
-scoped-returns-in-Ok-clause-told t c =
+pub define_term-returns-in-Err-check_scoped : goal.define_term-returns-in-Err-check_scoped
+define_term-returns-in-Err-check_scoped t c =
+    let r = rest_of c.args.rest.now in
+    let check = check_by (processed_in c.args.levels) r in
+    let es = c.args.entries.now in
+    let m = made_of c.loop-next.made c.loop-next.defined in
+    let w = c.in-Check.waiting in
+    let stock = c.args.stock.now in
+    let e = c.in-Err-check_scoped.e in
+    let told = subst (λ tree. Refuses e ((check m.context tree).run stock).result) c.scoped.ensures c.in-Err-check_scoped.ensures.told in
+    let counted = subst (λ tree. UnlessNoMemory {A = Unit {0}} (Err e) (c.check_scoped.new.runs ≡ grown c.loop-next.runs ((check m.context tree).run stock).runs ((check m.context tree).run stock).reads)) c.scoped.ensures c.in-Err-check_scoped.ensures.counted in
+    let view = λ (x : Unit {0}). made_of c.check_scoped.new.made c.loop-next.defined in
+    let whole = tallied c.args.runs.now (term_outcome check r es c.args.name.now (made_of c.args.made.now c.args.defined.now) stock) in
+    subst (λ s. Tells view c.check_scoped.new.runs (Err s) whole) (sym c.scoped_stop.ensures)
+    (refused_scoped check r es stock c.loop-next.runs c.check_scoped.new.runs m w whole c.loop-next.next c.in-Check.is c.loop-next.invariant.same view e counted told)
+
+pub define_term-returns-in-Err-go_on : goal.define_term-returns-in-Err-go_on
+define_term-returns-in-Err-go_on t c =
+    let r = rest_of c.args.rest.now in
+    let check = check_by (processed_in c.args.levels) r in
+    let es = c.args.entries.now in
+    let m = made_of c.loop-next.made c.loop-next.defined in
+    let n = made_of c.go_on.new.made c.go_on.new.defined in
+    let w = c.in-Check.waiting in
+    let stock = c.args.stock.now in
+    let told = subst (λ tree. (x : Context) × (((check m.context tree).run stock).result ≡ Ok x)) c.scoped.ensures c.in-Ok-check_scoped.ensures.told in
+    let counted = subst (λ tree. c.check_scoped.new.runs ≡ grown c.loop-next.runs ((check m.context tree).run stock).runs ((check m.context tree).run stock).reads) c.scoped.ensures c.in-Ok-check_scoped.ensures.counted in
+    resumed_err check r es stock c.loop-next.runs c.check_scoped.new.runs m n w w.ready.scoped _ (outcome_on check r es stock m.context w) counted c.loop-next.next c.in-Check.is c.loop-next.invariant.same
+    (λ (x : Unit {0}). n) (λ later. left_outcome check r es later n stock) c.in-Err-go_on.e
+    (moved check r es stock _ _ c.loop-next.defined w (Err c.in-Err-go_on.e) (λ later. left_outcome check r es later n stock) c.in-Ok-check_scoped.ensures.same (c.in-Err-go_on.ensures.gives check stock) told.0 told.1)
+
+pub check_on_copy-returns-in-Ok-clause-told : goal.check_on_copy-returns-in-Ok-clause-told
+check_on_copy-returns-in-Ok-clause-told t c =
+    let again = processed_in c.args.levels in
+    let e = same_scoped (rest_of c.args.rest.now) c.args.local.now (flat c.args.made.now) (flat c.in_ok-active.active) c.in_ok-inputs.inputs c.in_ok-remote.remote (sym c.in_ok-active.ensures.equal) c.in_ok-inputs.ensures c.in_ok-remote.ensures in
+    (flat c.in-Ok.field-0, ap (λ a. ((again a).run c.args.stock.now).result) e ∙ ap (λ (o : Tally Context). o.result) c.in-Ok.ensures)
+
+pub check_in_place-returns-in_ok-made-in-Ok-clause-told : goal.check_in_place-returns-in_ok-made-in-Ok-clause-told
+check_in_place-returns-in_ok-made-in-Ok-clause-told t c =
+    let again = processed_in c.args.levels in
+    let e = same_scoped (rest_of c.args.rest.now) c.args.local.now (flat c.args.made.now) (flat c.replace-active.result) c.in_ok-inputs.inputs c.in_ok-remote.remote (ap flat (sym c.replace-active.ensures.value)) c.in_ok-inputs.ensures c.in_ok-remote.ensures in
+    (flat c.in-Ok.ctx, ap (λ a. ((again a).run c.args.stock.now).result) e ∙ ap (λ (o : Tally Context). o.result) c.in-Ok.ensures)
+
+pub check_in_place-returns-in_ok-made-in-Ok-clause-same : goal.check_in_place-returns-in_ok-made-in-Ok-clause-same
+check_in_place-returns-in_ok-made-in-Ok-clause-same t c =
     let again = processed_in c.args.levels in
     let rest = rest_of c.args.rest.now in
-    let e : scoped_ask rest (flat c.args.made.now) c.args.local.now ≡ record (scoped_ask rest (flat c.in_ok-active.active) c.args.local.now) { base = c.in_ok-copy_iri.field-0; remote = c.in_ok-remote.remote } =
-    same_scoped rest c.args.local.now _ _ _ _ (sym c.in_ok-active.ensures.equal) (sym c.in_ok-copy_iri.ensures) (sym c.in_ok-remote.ensures) in
-    (flat c.in-Ok.field-0, ap (λ a. ((again a).run c.args.stock.now).result) e ∙ ap (λ (o : Tally Context). o.result) c.in-Ok.ensures)
+    let active = flat c.args.made.now in
+    let local = c.args.local.now in
+    let e = same_scoped rest local active (flat c.replace-active.result) c.in_ok-inputs.inputs c.in_ok-remote.remote (ap flat (sym c.replace-active.ensures.value)) c.in_ok-inputs.ensures c.in_ok-remote.ensures in
+    let former = c.in_ok-former.ensures in
+    c.in_ok-made-in-Ok.ensures
+    ∙ undone_scoped c.args.levels c.args.stock.now (scoped_ask rest active local) c.args.entries.now (flat c.in-Ok.ctx) c.in_ok-former.former (own_is local c.args.entries.now (sym c.requires.own))
+    (ap (λ a. ((again a).run c.args.stock.now).result) e ∙ ap (λ (o : Tally Context). o.result) c.in-Ok.ensures) former.base former.vocab former.language former.defs

@@ -10,49 +10,55 @@ use Rattle.ld_context.proofs.Terms.{Defining}
 use Rattle.ld_context.proofs.walk.+process.Given as goal
 
 abbrev pub decreases-process_in : goal.decreases-process_in
-decreases-process_in l = 12 * l.levels
+decreases-process_in l = 13 * l.levels
 
 abbrev pub decreases-process_step : goal.decreases-process_step
-decreases-process_step l = 12 * l.levels + 11
+decreases-process_step l = 13 * l.levels + 12
 
 abbrev pub decreases-each_item : goal.decreases-each_item
-decreases-each_item l = 12 * l.levels + 10
+decreases-each_item l = 13 * l.levels + 11
 
 abbrev pub decreases-item_step : goal.decreases-item_step
-decreases-item_step l = 12 * l.levels + 9
+decreases-item_step l = 13 * l.levels + 10
 
 abbrev pub decreases-by_text : goal.decreases-by_text
-decreases-by_text l = 12 * l.levels + 8
+decreases-by_text l = 13 * l.levels + 9
 
 abbrev pub decreases-by_iri : goal.decreases-by_iri
-decreases-by_iri l = 12 * l.levels + 7
+decreases-by_iri l = 13 * l.levels + 8
 
 abbrev pub decreases-dereferenced : goal.decreases-dereferenced
-decreases-dereferenced l = 12 * l.levels + 6
+decreases-dereferenced l = 13 * l.levels + 7
 
 abbrev pub decreases-by_map : goal.decreases-by_map
-decreases-by_map l = 12 * l.levels + 8
+decreases-by_map l = 13 * l.levels + 9
 
 abbrev pub decreases-by_import : goal.decreases-by_import
-decreases-by_import l = 12 * l.levels + 7
+decreases-by_import l = 13 * l.levels + 8
 
 abbrev pub decreases-by_entries : goal.decreases-by_entries
-decreases-by_entries l = 12 * l.levels + 6
+decreases-by_entries l = 13 * l.levels + 7
 
 abbrev pub decreases-terms_in : goal.decreases-terms_in
-decreases-terms_in l = 12 * l.levels + 5
+decreases-terms_in l = 13 * l.levels + 6
 
 abbrev pub decreases-each_term : goal.decreases-each_term
-decreases-each_term l = 12 * l.levels + 4
+decreases-each_term l = 13 * l.levels + 5
 
 abbrev pub decreases-unless_keyword : goal.decreases-unless_keyword
-decreases-unless_keyword l = 12 * l.levels + 3
+decreases-unless_keyword l = 13 * l.levels + 4
 
 abbrev pub decreases-define_term : goal.decreases-define_term
-decreases-define_term l = 12 * l.levels + 2
+decreases-define_term l = 13 * l.levels + 3
 
-abbrev pub decreases-scoped : goal.decreases-scoped
-decreases-scoped l = 12 * l.levels + 1
+abbrev pub decreases-check_scoped : goal.decreases-check_scoped
+decreases-check_scoped l = 13 * l.levels + 2
+
+abbrev pub decreases-check_in_place : goal.decreases-check_in_place
+decreases-check_in_place l = 13 * l.levels + 1
+
+abbrev pub decreases-check_on_copy : goal.decreases-check_on_copy
+decreases-check_on_copy l = 13 * l.levels + 1
 
 abbrev pub invariant-each_item-loop-item : goal.invariant-each_item-loop-item
 invariant-each_item-loop-item l =

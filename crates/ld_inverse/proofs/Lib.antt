@@ -1,0 +1,11 @@
+pub mod Candidates
+pub mod Chains
+pub mod Grouping
+pub mod Leasts
+pub mod Sorting
+pub mod Totals
+pub mod Under
+pub mod Preferred
+pub mod Items
+pub mod Names
+pub mod Unmapped

@@ -1,0 +1,7 @@
+pub mod Gathering
+pub mod Groups
+pub mod Inverses
+pub mod Orders
+pub mod Questions
+pub mod Tickets
+pub mod Under
