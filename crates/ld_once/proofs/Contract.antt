@@ -6,6 +6,7 @@ use Rattle.ld_edge.specs.Sides.{Incoming, Outgoing}
 use Rattle.ld_edge.specs.declared.status.Status.{Status}
 use Rattle.ld_edge.specs.declared.status.Status.TheVariants.{Done, Refused, Usage, InputTooLong}
 use Rattle.ld_script.proofs.Scripts.{not_bad}
+use Rattle.ld_tree_read.proofs.Clear.{reads_clear}
 use Rattle.ld_once.proofs.Replied.{not_answered_twice}
 use Rattle.ld_once.specs.declared.command.Command.{Command}
 use Rattle.ld_once.specs.declared.command.Command.TheVariants.{Expand, Schedule}
@@ -24,7 +25,7 @@ same_command words Schedule Schedule h k = refl
 module _ (bytes out out' : List ℕ) where
   -- an input that a command makes something of isn't refused
   not_refused : IsAnswered bytes Done out → IsWhyNot Expand bytes out' → ⊥
-  not_refused h (inl none) = none.0 h.1.0 h.1.1
+  not_refused h (inl unread) = let none : None ≡ Some unread.0 = sym (reads_clear bytes h.1.0 h.1.1) ∙ unread.1 in cc
   not_refused h (inr (inl other)) = other.0.1 h.0 h.1
   not_refused h (inr (inr refused)) = not_answered_twice bytes out out' h refused
 

@@ -1,6 +1,6 @@
 -- From the parts of a reply to the whole.
 use Rattle.std.proofs.Common.{◌≡◌, ℕ, List, [], ◌∷◌, inl, inr, refl, sym, ap, subst}
-use Rattle.std.specs.Prelude.{codes, IfOk, Result, Ok, Err}
+use Rattle.std.specs.Prelude.{codes, IfOk, Option, Some, None, Result, Ok, Err}
 use Rattle.ld_edge.specs.declared.status.Status.{Status}
 use Rattle.ld_edge.specs.declared.status.Status.TheVariants.{Done, Refused}
 use Rattle.ld_tree.specs.Reading.{reads}
@@ -8,8 +8,12 @@ use Rattle.ld_tree.specs.declared.tree.Tree.{Tree, out-Tree}
 use Rattle.ld_tree.specs.declared.tree.Tree.TheOpen.{Tree-F}
 use Rattle.ld_rec.specs.declared.stop.Stop.{Stop}
 use Rattle.ld_tree.proofs.Once.{read_once}
+use Rattle.ld_tree_read.specs.Refusals.{first_refusal}
+use Rattle.ld_tree_read.specs.Steps.{Known}
+use Rattle.ld_tree_read.specs.declared.refusal.ReadRefusal.{ReadRefusal}
+use Rattle.ld_tree_read.specs.declared.refusal.ReadRefusal.TheVariants as json
 use Rattle.ld_once.specs.declared.command.Command.TheVariants.{Expand}
-use Rattle.ld_once.specs.Runs.{IsEnvelope, IsEnvelopeAt, HasDocument, IsAnswer, IsAnswered, IsReply, comes_to, not_json, not_built}
+use Rattle.ld_once.specs.Runs.{IsEnvelope, IsEnvelopeAt, HasDocument, IsAnswer, IsAnswered, IsReply, comes_to, json_body, not_built}
 use Rattle.ld_once.specs.Replies.{IsRefusal}
 
 -- what holds of each value of a kind holds of the value that is there
@@ -54,5 +58,16 @@ module _ (bytes : List ℕ) (tree : Tree) (reading : reads bytes tree) where
       none document (subst (λ t. IsEnvelope t document) (read_once bytes has.0 tree has.1 reading) has.2) in
       subst (λ s. IsReply Expand bytes s out) (sym h.0) (inr (inl (((tree, reading), without), h.1)))
 
-pub IsReply-no_json : (bytes : List ℕ) → ((tree : Tree) → reads bytes tree → ⊥) → (status : Status) (out : List ℕ) → IsRefusal not_json status out → IsReply Expand bytes status out
-IsReply-no_json bytes none status out h = subst (λ s. IsReply Expand bytes s out) (sym h.0) (inl (none, h.1))
+pub IsReply-unread : (bytes : List ℕ) (e : ReadRefusal) → Known e (first_refusal bytes ≡ Some e) → (status : Status) (out : List ℕ) → (status ≡ Refused) × (json_body e ≡ Some out) → IsReply Expand bytes status out
+IsReply-unread bytes e known status out h = go e known h.1
+  where
+    refused : (e : ReadRefusal) → first_refusal bytes ≡ Some e → json_body e ≡ Some out → IsReply Expand bytes status out
+    refused e is body = subst (λ s. IsReply Expand bytes s out) (sym h.0) (inl (e, is, body))
+
+    go : (e : ReadRefusal) → Known e (first_refusal bytes ≡ Some e) → json_body e ≡ Some out → IsReply Expand bytes status out
+    go json.NoMemory known body = absurd (let w : None ≡ Some out = body in cc)
+    go (json.Syntax at) known body = refused (json.Syntax at) known body
+    go (json.NotUtf8 at) known body = refused (json.NotUtf8 at) known body
+    go (json.Fraction at) known body = refused (json.Fraction at) known body
+    go (json.TooLarge at) known body = refused (json.TooLarge at) known body
+    go (json.TooDeep at) known body = refused (json.TooDeep at) known body

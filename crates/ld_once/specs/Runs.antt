@@ -13,6 +13,9 @@ use Rattle.ld_tree.specs.Maps.{empty}
 use Rattle.ld_tree.specs.declared.tree.Tree.{Tree, out-Tree}
 use Rattle.ld_tree.specs.declared.tree.Tree.TheOpen.{Tree-F}
 use Rattle.ld_tree.specs.Reading.{reads}
+use Rattle.ld_tree_read.specs.Refusals.{first_refusal}
+use Rattle.ld_tree_read.specs.declared.refusal.ReadRefusal.{ReadRefusal}
+use Rattle.ld_tree_read.specs.declared.refusal.ReadRefusal.TheVariants as json
 use Rattle.ld_rec.specs.Expansion.{expanded}
 use Rattle.ld_rec.specs.declared.stop.Stop.{Stop}
 use Rattle.ld_rec.specs.declared.stop.Stop.TheVariants as stop
@@ -48,8 +51,18 @@ usage = line (codes "usage: expand | compact | flatten | schedule | soak <n> | s
 abbrev pub input_too_long : List ℕ
 input_too_long = line (codes "{\"own\":\"input too long\"}")
 
-abbrev pub not_json : List ℕ
-not_json = line (codes "{\"own\":\"not json\"}")
+-- no JSON text that is read goes on at this place, and what is wrong there
+abbrev pub refused_at : ℕ → List ℕ → List ℕ
+refused_at at what = line (codes "{\"at\":" ++ decimal at ++ codes ",\"own\":\"" ++ what ++ codes "\"}")
+
+-- why an input isn't read
+abbrev pub json_body : ReadRefusal → Option (List ℕ)
+json_body (json.Syntax at) = Some (refused_at at (codes "syntax"))
+json_body (json.NotUtf8 at) = Some (refused_at at (codes "not utf-8"))
+json_body (json.Fraction at) = Some (refused_at at (codes "fractional number"))
+json_body (json.TooLarge at) = Some (refused_at at (codes "number too large"))
+json_body (json.TooDeep at) = Some (refused_at at (codes "too deep"))
+json_body json.NoMemory = None
 
 abbrev pub not_built : List ℕ
 not_built = line (codes "{\"own\":\"not built\"}")
@@ -70,9 +83,9 @@ IsEnvelope tree document = IsEnvelopeAt (out-Tree tree) document
 abbrev pub HasDocument : List ℕ → Tree → Type 0
 HasDocument bytes document = (tree : Tree) × reads bytes tree × IsEnvelope tree document
 
--- the input is no JSON text
-abbrev pub IsNoJson : List ℕ → Type 0
-IsNoJson bytes = (tree : Tree) → reads bytes tree → ⊥
+-- the input isn't read as JSON, and this says why
+abbrev pub IsUnread : List ℕ → List ℕ → Type 0
+IsUnread bytes out = (e : ReadRefusal) × (first_refusal bytes ≡ Some e) × (json_body e ≡ Some out)
 
 -- the input is JSON, but no envelope
 abbrev pub IsNoEnvelope : List ℕ → Type 0
@@ -106,7 +119,7 @@ IsResult Schedule bytes out = IsOutput bytes out
 
 -- why it makes nothing of it
 abbrev pub IsWhyNot : Command → List ℕ → List ℕ → Type 0
-IsWhyNot Expand bytes out = (IsNoJson bytes × (out ≡ not_json)) ⊎ (IsNoEnvelope bytes × (out ≡ not_built)) ⊎ IsAnswered bytes Refused out
+IsWhyNot Expand bytes out = IsUnread bytes out ⊎ (IsNoEnvelope bytes × (out ≡ not_built)) ⊎ IsAnswered bytes Refused out
 IsWhyNot Schedule bytes out = (number : ℕ) × IsBadAt bytes number × (out ≡ bad_line number)
 
 -- what a whole input within the limit is answered: each status, when it is due, and the text that goes with it

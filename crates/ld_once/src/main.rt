@@ -10,7 +10,6 @@
 mod command;
 mod input;
 mod output;
-mod print;
 mod reply;
 #[cfg(test)]
 mod rows;

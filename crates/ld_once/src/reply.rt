@@ -1,14 +1,14 @@
-ghost use Rattle.std.specs.Prelude.{◌≡◌, ◌++◌, MatchOption, IfOk, Ok, Err, option_copied};
+ghost use Rattle.std.specs.Prelude.{◌≡◌, ◌++◌, MatchOption, IfOk, Some, Ok, Err, option_copied};
 ghost use Rattle.ld_codes.specs.declared.own.Own.TheVariants.{OutsideProfile};
 ghost use Rattle.ld_edge.specs.declared.status.Status.TheVariants as status;
+ghost use Rattle.ld_edge.specs.declared.status.Status.TheVariants.{Refused};
 ghost use Rattle.ld_tree.specs.declared.tree.Tree.{Tree};
 ghost use Rattle.ld_once.specs.declared.command.Command.TheVariants as commands;
 ghost use Rattle.ld_rec.specs.declared.stop.Stop.TheVariants as stop;
-ghost use Rattle.ld_once.specs.Runs.{IsAnswer, IsEnvelope, IsReply, bad_line, body_of, comes_to};
+ghost use Rattle.ld_once.specs.Runs.{IsAnswer, IsEnvelope, IsReply, bad_line, body_of, comes_to, json_body, refused_at};
 ghost use Rattle.ld_once.specs.Replies.{IsRefusal};
 
 use crate::command::Command;
-use crate::print::{print_bytes, print_text, print_tree};
 use itoa::Buffer;
 use ld_codes::{Code, Keyword, Own};
 use ld_context::Plain;
@@ -18,6 +18,7 @@ use ld_expand::expand;
 use ld_script::{ScriptRefusal, run_script};
 use ld_tree::{NoMemory, Tree};
 use ld_tree_read::{ReadRefusal, read_tree};
+use ld_tree_write::{write_text, write_tree};
 use std::alloc::Global;
 
 /// What an input is answered: the status, and the text that goes with it.
@@ -26,8 +27,6 @@ pub struct Reply {
     pub status: Status,
     pub text: Vec<u8>,
 }
-
-const NOT_JSON: &[u8] = b"{\"own\":\"not json\"}\n";
 
 const NOT_BUILT: &[u8] = b"{\"own\":\"not built\"}\n";
 
@@ -61,9 +60,9 @@ fn refuse_line(alloc: Global, number: u64) -> Result<Reply, NoMemory>
     ensures { IfOk result (λ r. IsRefusal (bad_line number) r.status r.text.items) }
 {
     let mut text = Vec::new(alloc);
-    print_bytes(b"{\"line\":", &mut text)?;
-    print_bytes(Buffer::new().format(number).as_bytes(), &mut text)?;
-    print_bytes(b",\"own\":\"script\"}", &mut text)?;
+    text.extend_from_slice(b"{\"line\":")?;
+    text.extend_from_slice(Buffer::new().format(number).as_bytes())?;
+    text.extend_from_slice(b",\"own\":\"script\"}")?;
     text.push(b'\n')?;
     Ok(Reply {
         status: Status::Refused,
@@ -80,9 +79,37 @@ fn reply_to_envelope(alloc: Global, bytes: &[u8]) -> Result<Reply, NoMemory>
             Some(document) => answer(alloc, document),
             None => refuse(alloc, NOT_BUILT),
         },
-        Err(ReadRefusal::NotRead) => refuse(alloc, NOT_JSON),
-        Err(ReadRefusal::NoMemory) => Err(NoMemory),
+        Err(e) => refuse_json(alloc, e),
     }
+}
+
+// Why an input isn't read as JSON, and where. Want of memory is no body.
+fn refuse_json(alloc: Global, refusal: ReadRefusal) -> Result<Reply, NoMemory>
+    ensures { IfOk result (λ r. (r.status ≡ Refused) × (json_body refusal ≡ Some r.text.items)) }
+{
+    match refusal {
+        ReadRefusal::Syntax { at } => refuse_at(alloc, at, "syntax"),
+        ReadRefusal::NotUtf8 { at } => refuse_at(alloc, at, "not utf-8"),
+        ReadRefusal::Fraction { at } => refuse_at(alloc, at, "fractional number"),
+        ReadRefusal::TooLarge { at } => refuse_at(alloc, at, "number too large"),
+        ReadRefusal::TooDeep { at } => refuse_at(alloc, at, "too deep"),
+        ReadRefusal::NoMemory => Err(NoMemory),
+    }
+}
+
+fn refuse_at(alloc: Global, at: usize, what: &str) -> Result<Reply, NoMemory>
+    ensures { IfOk result (λ r. IsRefusal (refused_at at what.now) r.status r.text.items) }
+{
+    let mut text = Vec::new(alloc);
+    text.extend_from_slice(b"{\"at\":")?;
+    text.extend_from_slice(Buffer::new().format(at).as_bytes())?;
+    text.extend_from_slice(b",\"own\":\"")?;
+    text.extend_from_slice(what.as_bytes())?;
+    text.extend_from_slice(b"\"}\n")?;
+    Ok(Reply {
+        status: Status::Refused,
+        text,
+    })
 }
 
 // The document of an envelope, which is a map whose one name is `document`.
@@ -114,7 +141,7 @@ fn done(alloc: Global, tree: &Tree) -> Result<Reply, NoMemory>
     ensures { IfOk result (λ r. IsAnswer (Ok tree.now) r.status r.text.items) }
 {
     let mut text = Vec::new(alloc);
-    print_tree(tree, &mut text)?;
+    write_tree(tree, &mut text)?;
     text.push(b'\n')?;
     Ok(Reply {
         status: Status::Done,
@@ -139,9 +166,9 @@ fn refuse_code(alloc: Global, code: Code) -> Result<Reply, NoMemory>
     ensures { IfOk result (λ r. IsAnswer (Err (stop.Code code)) r.status r.text.items) }
 {
     let mut text = Vec::new(alloc);
-    print_bytes(b"{\"code\":", &mut text)?;
-    print_text(code.text(), &mut text)?;
-    print_bytes(b"}\n", &mut text)?;
+    text.extend_from_slice(b"{\"code\":")?;
+    write_text(code.text(), &mut text)?;
+    text.extend_from_slice(b"}\n")?;
     Ok(Reply {
         status: Status::Refused,
         text,
@@ -152,9 +179,9 @@ fn refuse_keyword(alloc: Global, keyword: Keyword) -> Result<Reply, NoMemory>
     ensures { IfOk result (λ r. IsAnswer (Err (stop.Own (OutsideProfile keyword))) r.status r.text.items) }
 {
     let mut text = Vec::new(alloc);
-    print_bytes(b"{\"keyword\":", &mut text)?;
-    print_text(keyword.text(), &mut text)?;
-    print_bytes(b",\"own\":\"outside profile\"}\n", &mut text)?;
+    text.extend_from_slice(b"{\"keyword\":")?;
+    write_text(keyword.text(), &mut text)?;
+    text.extend_from_slice(b",\"own\":\"outside profile\"}\n")?;
     Ok(Reply {
         status: Status::Refused,
         text,

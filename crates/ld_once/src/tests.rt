@@ -38,7 +38,6 @@ pub fn run(
 
 #[test]
 fn answers_inputs(rt: HostRuntime) -> Result<(), Fail> {
-    let not_json = "{\"own\":\"not json\"}\n";
     let not_built = "{\"own\":\"not built\"}\n";
     let cases = [
         (ANN, Status::Done, ANN_EXPANDED),
@@ -61,8 +60,8 @@ fn answers_inputs(rt: HostRuntime) -> Result<(), Fail> {
             not_built,
         ),
         ("[]", Status::Refused, not_built),
-        ("{\"document\":", Status::Refused, not_json),
-        ("", Status::Refused, not_json),
+        ("{\"document\":", Status::Refused, "{\"at\":12,\"own\":\"syntax\"}\n"),
+        ("", Status::Refused, "{\"at\":0,\"own\":\"syntax\"}\n"),
     ];
     for (input, status, output) in cases {
         let bytes = input.as_bytes().to_vec(rt.alloc())?;

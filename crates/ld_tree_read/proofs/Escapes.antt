@@ -1,93 +1,32 @@
 -- Escapes of characters.
-use Rattle.std.proofs.Common.{◌≡◌, ◌∙◌, refl, sym, ap, ap₂, subst, Bool, true, false, true≢false, ◌&&◌, ◌||◌, inl, inr, ◌⊎◌, ℕ, ◌<◌, List, ◌∷◌, Option, Some, None, nat_lt, arith, lt-ltb, le-ltb}
 use Rattle.std.proofs.lemmas.Bool.{cases_lt}
-use Rattle.std.specs.Option.{IfSome, IfNone}
-use Rattle.std.specs.Char.{encode_utf8, InScalarRange, OutOfScalarRange}
+use Rattle.std.proofs.Common.{◌≡◌, ◌∙◌, refl, sym, ap, ap₂, subst, ◌⊎◌, inl, inr, Bool, true, false, ◌&&◌, ◌||◌, ℕ, ◌+◌, ◌*◌, ◌<◌, ◌≤◌, List, ◌∷◌, Some, nat_lt, arith, lt-ltb, le-ltb}
+use Rattle.std.specs.Option.{is_some}
+use Rattle.std.specs.Char.{encode_utf8}
 use Rattle.std.proofs.lemmas.Str.{encode_ascii}
-use Rattle.ld_tree.specs.Reading.{hex, more_hex, hex4, escaped, is_high_half, is_low_half, of_pair, IsChar, unescaped, letter, unit, pair}
-use Rattle.ld_tree.proofs.Once.{all_so, neither, tail_is}
+use Rattle.ld_tree.specs.Reading.{hex, more_hex, hex4, escaped, is_high_half, is_low_half, of_pair, IsChar, letter}
+use Rattle.ld_tree.specs.Reading as reading
 use Rattle.ld_tree.proofs.ReadUtf8.{escaped_low}
-use Rattle.ld_tree_read.specs.Tokens.{IsUnit, digits}
+use Rattle.ld_tree_read.specs.Tokens.{IsTwo, two, IsUnit, unit}
 
-same_some : (a b : ℕ) → Some a ≡ Some b → a ≡ b
-same_some a b e = cc
+four_is : (a b c d u v w x : ℕ) → hex a ≡ Some u → hex b ≡ Some v → hex c ≡ Some w → hex d ≡ Some x → hex4 a b c d ≡ Some (16 * (16 * (16 * (16 * 0 + u) + v) + w) + x)
+four_is a b c d u v w x ea eb ec ed = ap₂ (λ p q. more_hex (more_hex (more_hex (more_hex (Some 0) p) q) (hex c)) (hex d)) ea eb ∙ ap₂ (λ p q. more_hex (more_hex (more_hex (more_hex (Some 0) (Some u)) (Some v)) p) q) ec ed
 
--- code units
-pub unit_once : {bs r : List ℕ} {u : ℕ} → IsUnit bs u r → (v : ℕ) (s : List ℕ) → IsUnit bs v s → (u ≡ v) × (r ≡ s)
-unit_once (digits a b c d u h) v s (digits _ _ _ _ _ w) = (same_some u v (sym h ∙ w), refl)
-
--- what the first n digits stand for
-abbrev two : ℕ → ℕ → Option ℕ
-two a b = more_hex (more_hex (Some 0) (hex a)) (hex b)
-
-abbrev three : ℕ → ℕ → ℕ → Option ℕ
-three a b c = more_hex (two a b) (hex c)
-
-no_more : (x y : Option ℕ) (u : ℕ) → x ≡ None → more_hex x y ≡ Some u → ⊥
-no_more x y u e h = let w : None ≡ Some u = sym (ap (λ x. more_hex x y) e) ∙ h in cc
-
-pub unit_found : {bs r : List ℕ} {u : ℕ} (a b c d : ℕ) → bs ≡ a ∷ b ∷ c ∷ d ∷ r → hex4 a b c d ≡ Some u → IsUnit bs u r
-unit_found {r = r} {u = u} a b c d e h = subst (λ bs. IsUnit bs u r) (sym e) (digits a b c d u h)
-
--- a digit that is none
-pub none_two : {bs r : List ℕ} (a b : ℕ) → bs ≡ a ∷ b ∷ r → two a b ≡ None → (u : ℕ) (q : List ℕ) → IsUnit bs u q → ⊥
-none_two {r = r} a b e h u q w = go w e
+-- two digits, and the two that are left of four
+pub unit_of : (a b u v w : ℕ) (bytes cs r : List ℕ) → bytes ≡ a ∷ b ∷ cs → hex a ≡ Some u → hex b ≡ Some v → IsTwo cs w r → IsUnit bytes (4096 * u + 256 * v + w) r
+unit_of a b u v w bytes cs r e ea eb t = go t e
   where
-    go : {bs : List ℕ} → IsUnit bs u q → bs ≡ a ∷ b ∷ r → ⊥
-    go (digits x y z v _ w) e =
-        let p : x ≡ a = cc in
-        let p' : y ≡ b = cc in
-        no_more (three x y z) (hex v) u (ap (λ t. more_hex t (hex z)) (ap₂ two p p' ∙ h)) w
+    go : {cs r : List ℕ} {w : ℕ} → IsTwo cs w r → bytes ≡ a ∷ b ∷ cs → IsUnit bytes (4096 * u + 256 * v + w) r
+    go (two c d x y {r = r} ec ed) e =
+        let is : 16 * (16 * (16 * (16 * 0 + u) + v) + x) + y ≡ 4096 * u + 256 * v + (16 * x + y) = omega arith in
+        subst (λ bytes. IsUnit bytes (4096 * u + 256 * v + (16 * x + y)) r) (sym e) (subst (λ n. IsUnit (a ∷ b ∷ c ∷ d ∷ r) n r) is (unit a b c d (16 * (16 * (16 * (16 * 0 + u) + v) + x) + y) (four_is a b c d u v x y ea eb ec ed)))
 
-pub none_three : {bs r : List ℕ} (a b c : ℕ) → bs ≡ a ∷ b ∷ c ∷ r → three a b c ≡ None → (u : ℕ) (q : List ℕ) → IsUnit bs u q → ⊥
-none_three {r = r} a b c e h u q w = go w e
-  where
-    go : {bs : List ℕ} → IsUnit bs u q → bs ≡ a ∷ b ∷ c ∷ r → ⊥
-    go (digits x y z v _ w) e =
-        let p : x ≡ a = cc in
-        let p' : y ≡ b = cc in
-        let p'' : z ≡ c = cc in
-        no_more (three x y z) (hex v) u (ap₂ (λ t z. more_hex t (hex z)) (ap₂ two p p') p'' ∙ h) w
+-- a unit that is no half of a pair
+pub no_half : (u : ℕ) → (u < 55296) → is_high_half u || is_low_half u ≡ false
+no_half u lt = rw (le-ltb 55295 u (omega arith), le-ltb 56319 u (omega arith)) refl
 
-pub none_four : {bs r : List ℕ} (a b c d : ℕ) → bs ≡ a ∷ b ∷ c ∷ d ∷ r → hex4 a b c d ≡ None → (u : ℕ) (q : List ℕ) → IsUnit bs u q → ⊥
-none_four {r = r} a b c d e h u q w = go w e
-  where
-    go : {bs : List ℕ} → IsUnit bs u q → bs ≡ a ∷ b ∷ c ∷ d ∷ r → ⊥
-    go (digits x y z v _ w) e =
-        let p : x ≡ a = cc in
-        let p' : y ≡ b = cc in
-        let p'' : z ≡ c = cc in
-        let p''' : v ≡ d = cc in
-        let n : None ≡ Some u = sym h ∙ sym (ap₂ (λ t v. more_hex t (hex v)) (ap₂ (λ t z. more_hex t (hex z)) (ap₂ two p p') p'') p''') ∙ w in
-        cc
-
--- what may follow \u: a code unit by itself, or two halves
-pub record IsAlone (bs m r : List ℕ) : Type 0 where
-  pub u : ℕ
-  pub at : IsUnit bs u r
-  pub no_half : is_high_half u || is_low_half u ≡ false
-  pub means : m ≡ encode_utf8 u
-
-pub record IsPaired (bs m r : List ℕ) : Type 0 where
-  pub high : ℕ
-  pub low : ℕ
-  pub more : List ℕ
-  pub first : IsUnit bs high (92 ∷ 117 ∷ more)
-  pub second : IsUnit more low r
-  pub halves : is_high_half high && is_low_half low ≡ true
-  pub means : m ≡ encode_utf8 (of_pair high low)
-
-after_u : {bs m r : List ℕ} → IsChar (92 ∷ 117 ∷ bs) m r → IsAlone bs m r ⊎ IsPaired bs m r
-after_u (unescaped _ h) = absurd (true≢false (sym h))
-after_u (letter _ c h) = absurd (let w : None ≡ Some c = h in cc)
-after_u (unit a b c d u h out) = inl (record { u = u; at = digits a b c d u h; no_half = out; means = refl })
-after_u (pair a b c d e f g i u v h k p) = inr (record { high = u; low = v; more = e ∷ f ∷ g ∷ i ∷ _; first = digits a b c d u h; second = digits e f g i v k; halves = p; means = refl })
-
-pub alone_found : {bs r : List ℕ} {u : ℕ} → IsUnit bs u r → InScalarRange u → IsChar (92 ∷ 117 ∷ bs) (encode_utf8 u) r
-alone_found (digits a b c d u h) ok = unit a b c d u h (elim ok [
-  | inl below ↦ rw (le-ltb 55295 u (omega (arith, below)), le-ltb 56319 u (omega (arith, below))) refl
-  | inr above ↦ rw (le-ltb u 56320 (omega (arith, above.0)), le-ltb u 57344 above.0) (no_both (nat_lt 55295 u) (nat_lt 56319 u))
-])
+pub no_half_above : (u : ℕ) → 57344 ≤ u → is_high_half u || is_low_half u ≡ false
+no_half_above u le = rw (le-ltb u 56320 (omega arith), le-ltb u 57344 le) (no_both (nat_lt 55295 u) (nat_lt 56319 u))
   where
     no_both : (x y : Bool) → (x && false) || (y && false) ≡ false
     no_both true true = refl
@@ -95,61 +34,33 @@ alone_found (digits a b c d u h) ok = unit a b c d u h (elim ok [
     no_both false true = refl
     no_both false false = refl
 
-pub pair_found : {bs r : List ℕ} {u v : ℕ} (more : List ℕ) → IsUnit bs u (92 ∷ 117 ∷ more) → IsUnit more v r → is_high_half u && is_low_half v ≡ true → IsChar (92 ∷ 117 ∷ bs) (encode_utf8 (of_pair u v)) r
-pair_found more (digits a b c d u h) (digits e f g i v k) p = pair a b c d e f g i u v h k p
+pub halves : (u v : ℕ) → 55296 ≤ u → u < 56320 → 56320 ≤ v → v < 57344 → is_high_half u && is_low_half v ≡ true
+halves u v a b c d = rw (lt-ltb 55295 u (omega arith), lt-ltb u 56320 b, lt-ltb 56319 v (omega arith), lt-ltb v 57344 d) refl
 
--- a half by itself
-half : (u : ℕ) → OutOfScalarRange u → u < 65536 → is_high_half u || is_low_half u ≡ false → ⊥
-half u out lt h = elim out [
-  | inl inside ↦ elim (cases_lt u 56320) [
-    | inl low ↦ true≢false (sym (all_so (nat_lt 55295 u) (nat_lt u 56320) (lt-ltb 55295 u (omega (arith, inside.0))) (lt-ltb u 56320 low)) ∙ (neither (is_high_half u) (is_low_half u) h).0)
-    | inr high ↦ true≢false (sym (all_so (nat_lt 56319 u) (nat_lt u 57344) (lt-ltb 56319 u (omega (arith, high))) (lt-ltb u 57344 (omega (arith, inside.1)))) ∙ (neither (is_high_half u) (is_low_half u) h).1)
-  ]
-  | inr above ↦ omega (arith, above, lt)
-]
+pub alone_found : (bs r : List ℕ) (u : ℕ) → IsUnit bs u r → is_high_half u || is_low_half u ≡ false → IsChar (92 ∷ 117 ∷ bs) (encode_utf8 u) r
+alone_found bs r u (unit a b c d _ h) out = reading.unit a b c d u h out
 
-pub none_unit : {bs : List ℕ} → ((u : ℕ) (r : List ℕ) → IsUnit bs u r → ⊥) → (m r : List ℕ) → IsChar (92 ∷ 117 ∷ bs) m r → ⊥
-none_unit bad m r h = elim (after_u h) [
-  | inl w ↦ bad w.u r w.at
-  | inr w ↦ bad w.high (92 ∷ 117 ∷ w.more) w.first
-]
-
-module _ {bs c : List ℕ} {u : ℕ} (at : IsUnit bs u c) (out : OutOfScalarRange u) (lt : u < 65536) where
-  -- what follows a half
-  after_half : {m r : List ℕ} → IsChar (92 ∷ 117 ∷ bs) m r → IsPaired bs m r
-  after_half {m} {r} h = elim (after_u h) [
-    | inl w ↦ absurd (half u out lt (subst (λ u. is_high_half u || is_low_half u ≡ false) (sym (unit_once at w.u r w.at).0) w.no_half))
-    | inr w ↦ w
-  ]
-
-  pub none_after : ((r : List ℕ) → c ≡ 92 ∷ 117 ∷ r → ⊥) → (m r : List ℕ) → IsChar (92 ∷ 117 ∷ bs) m r → ⊥
-  none_after bad m r h =
-      let w = after_half h in
-      bad w.more (unit_once at w.high (92 ∷ 117 ∷ w.more) w.first).1
-
-  module _ {more : List ℕ} (e : c ≡ 92 ∷ 117 ∷ more) where
-    second : {m r : List ℕ} → (w : IsPaired bs m r) → IsUnit more w.low r
-    second {m} {r} w =
-        let is : 92 ∷ 117 ∷ w.more ≡ 92 ∷ 117 ∷ more = sym (unit_once at w.high (92 ∷ 117 ∷ w.more) w.first).1 ∙ e in
-        subst (λ more. IsUnit more w.low r) (tail_is 117 117 w.more more (tail_is 92 92 _ _ is)) w.second
-
-    pub none_second : ((v : ℕ) (r : List ℕ) → IsUnit more v r → ⊥) → (m r : List ℕ) → IsChar (92 ∷ 117 ∷ bs) m r → ⊥
-    none_second bad m r h = let w = after_half h in bad w.low r (second w)
-
-    pub none_pair : {q : List ℕ} {v : ℕ} → IsUnit more v q → (is_high_half u && is_low_half v ≡ true → ⊥) → (m r : List ℕ) → IsChar (92 ∷ 117 ∷ bs) m r → ⊥
-    none_pair {q} {v} here bad m r h =
-        let w = after_half h in
-        let is = (unit_once at w.high (92 ∷ 117 ∷ w.more) w.first).0 in
-        let is' = (unit_once here w.low r (second w)).0 in
-        bad (ap₂ (λ x y. is_high_half x && is_low_half y) is is' ∙ w.halves)
+pub pair_found : (bs more r : List ℕ) (u v : ℕ) → IsUnit bs u (92 ∷ 117 ∷ more) → IsUnit more v r → is_high_half u && is_low_half v ≡ true → IsChar (92 ∷ 117 ∷ bs) (encode_utf8 (of_pair u v)) r
+pair_found bs more r u v (unit a b c d _ h) w p = go w
+  where
+    go : {more : List ℕ} → IsUnit more v r → IsChar (92 ∷ 117 ∷ a ∷ b ∷ c ∷ d ∷ 92 ∷ 117 ∷ more) (encode_utf8 (of_pair u v)) r
+    go (unit e f g i _ k) = reading.pair a b c d e f g i u v h k p
 
 pub letter_found : (e k : ℕ) (bs : List ℕ) → escaped e ≡ Some k → IsChar (92 ∷ e ∷ bs) (encode_utf8 k) bs
 letter_found e k bs h = subst (λ m. IsChar (92 ∷ e ∷ bs) m bs) (sym (encode_ascii k (escaped_low e k h).1)) (letter e k h)
 
-pub unit_if : {bs r : List ℕ} (o : Option ℕ) (a b c d : ℕ) → bs ≡ a ∷ b ∷ c ∷ d ∷ r → o ≡ hex4 a b c d → IfSome o (λ u. IsUnit bs u r)
-unit_if None a b c d e h = tt
-unit_if (Some u) a b c d e h = unit_found a b c d e (sym h)
+pub letter_is : (b k : ℕ) → escaped b ≡ Some k → is_some (escaped b) ≡ true
+letter_is b k e = ap is_some e
 
-pub unit_if_none : {bs r : List ℕ} (o : Option ℕ) (a b c d : ℕ) → bs ≡ a ∷ b ∷ c ∷ d ∷ r → o ≡ hex4 a b c d → IfNone o ((u : ℕ) (q : List ℕ) → IsUnit bs u q → ⊥)
-unit_if_none None a b c d e h = none_four a b c d e (sym h)
-unit_if_none (Some u) a b c d e h = tt
+-- one that begins with another digit than D, or with D and a digit below 8
+pub no_half_d : (a b r : ℕ) → a < 16 → b < 16 → r < 256 → (a ≡ 13 → ⊥) ⊎ (b < 8) → is_high_half (4096 * a + 256 * b + r) || is_low_half (4096 * a + 256 * b + r) ≡ false
+no_half_d a b r la lb lr which = elim (cases_lt a 13) [
+  | inl below ↦ no_half (4096 * a + 256 * b + r) (omega (arith, below, lb, lr))
+  | inr above ↦ elim (cases_lt 13 a) [
+    | inl high ↦ no_half_above (4096 * a + 256 * b + r) (omega (arith, high))
+    | inr eq ↦ elim which [
+      | inl other ↦ absurd (other (omega (arith, eq, above)))
+      | inr low ↦ no_half (4096 * a + 256 * b + r) (omega (arith, eq, low, lr))
+    ]
+  ]
+]

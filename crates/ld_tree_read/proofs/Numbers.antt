@@ -1,15 +1,11 @@
 -- Digits and what they stand for.
-use Rattle.std.proofs.Common.{◌≡◌, ◌∙◌, refl, sym, ap, inl, inr, ℕ, suc, ◌+◌, ◌-◌, ◌*◌, ◌/◌, ◌%◌, ◌^◌, ◌<◌, ◌≤◌, Bool, true, false, cond, nat_eq, List, [], ◌∷◌, ◌++◌, length, take, drop, get_or, Ok, Err, arith, drop-cons, append-nil, eq-eqb}
-use Rattle.std.specs.List.{prefix_len}
+use Rattle.std.proofs.Common.{◌≡◌, ◌∙◌, refl, sym, ap, inl, inr, ℕ, suc, ◌+◌, ◌-◌, ◌*◌, ◌/◌, ◌%◌, ◌^◌, ◌<◌, ◌≤◌, Bool, true, false, cond, nat_eq, List, [], ◌∷◌, ◌++◌, length, drop, get_or, Ok, Err, arith, drop-cons, append-nil, eq-eqb}
 use Rattle.std.proofs.lemmas.Bool.{cases_lt}
-use Rattle.std.proofs.lemmas.List.{get_or-take, length-take-le}
-use Rattle.std.proofs.lemmas.List.Sums.{prefix_len_passes, prefix_len-le-length}
-use Rattle.ld_tree.specs.Numbers.{Token, is_digit, value_after, value_of, exact, num_of, whole_num, is_whole, is_one_one, size, number_at, unsigned_at}
+use Rattle.ld_tree.specs.Numbers.{Token, value_after, value_of, exact, num_of, whole_num, is_whole, is_one_one, size}
 use Rattle.ld_tree.specs.declared.number.NumFault.TheVariants.{Fraction}
 use Rattle.ld_tree.specs.declared.tree.Num.TheVariants.{OneOne}
-use Rattle.ld_tree_read.specs.Digits.{AreDigits}
 use Rattle.ld_tree_read.proofs.Powers.{no_rest, quotient}
-use Rattle.ld_tree_read.proofs.Scaled.{chosen, passed, same_nat}
+use Rattle.ld_tree_read.proofs.Scaled.{chosen, same_nat}
 
 value_grows : (v : ℕ) (ds : List ℕ) → v ≤ value_after v ds
 value_grows v [] = omega arith
@@ -25,30 +21,6 @@ over_product v d bad = elim (cases_lt (v * 10) (2 ^ 64)) [ inl lt ↦ absurd (ba
 
 pub over_sum : (v p d : ℕ) → p ≡ v * 10 → (p + d < 2 ^ 64 → ⊥) → 2 ^ 64 ≤ 10 * v + d
 over_sum v p d e bad = elim (cases_lt (p + d) (2 ^ 64)) [ inl lt ↦ absurd (bad lt) | inr le ↦ omega (arith, le, e) ]
-
--- the digits at the front
-pub run_each : (bs : List ℕ) → AreDigits (take (prefix_len is_digit bs) bs)
-run_each bs k lt =
-    let le = prefix_len-le-length is_digit bs in
-    let lt' : k < prefix_len is_digit bs = omega (arith, lt, length-take-le (prefix_len is_digit bs) bs le) in
-    rw (get_or-take (prefix_len is_digit bs) bs k 0 lt') (prefix_len_passes is_digit bs k 0 lt')
-
-not_byte : (b k : ℕ) → (b ≡ k → ⊥) → nat_eq b k ≡ false
-not_byte b k other = go (nat_eq b k) refl
-  where
-    go : (v : Bool) → nat_eq b k ≡ v → nat_eq b k ≡ false
-    go false e = e
-    go true e = absurd (other (same_nat b k e))
-
--- a number with its minus, and one without
-pub number_minus : (bs r : List ℕ) → bs ≡ 45 ∷ r → number_at bs ≡ unsigned_at true r
-unfolding number_at
-number_minus bs r e = ap number_at e
-
-pub number_plain : (bs : List ℕ) → ((r : List ℕ) → bs ≡ 45 ∷ r → ⊥) → number_at bs ≡ unsigned_at false bs
-unfolding number_at
-number_plain [] other = refl
-number_plain (b ∷ r) other = passed (nat_eq b 45) (unsigned_at true r) (unsigned_at false (b ∷ r)) (not_byte b 45 (λ is. other r (ap (λ b. b ∷ r) is)))
 
 pub no_bytes : (bytes : List ℕ) → true ≡ nat_eq (length bytes) 0 → bytes ≡ []
 no_bytes [] e = refl

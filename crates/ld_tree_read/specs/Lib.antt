@@ -1,5 +1,10 @@
+pub mod Begun
 pub mod Cursor
 pub mod Digits
-pub mod Outcome
+pub mod Grammar
+pub mod Refusals
+pub mod Stack
 pub mod State
+pub mod Steps
+pub mod Strings
 pub mod Tokens

@@ -14,7 +14,8 @@ impl<'a> Cursor<'a> {
     ghost use Rattle.ld_tree_read.specs.Cursor.{left};
 
     pub fn new(input: &'a [u8]) -> Cursor<'a>
-        ensures { left result ≡ input.now }
+        ensures left { left result ≡ input.now }
+        ensures at { result.at ≡ 0 }
     {
         Cursor { input, at: 0 }
     }
@@ -24,6 +25,13 @@ impl<'a> Cursor<'a> {
         ensures { result.now ≡ left self.now }
     {
         &self.input[self.at..]
+    }
+
+    /// How many bytes lie behind it.
+    pub fn at(&self) -> usize
+        ensures { result ≡ self.now.at }
+    {
+        self.at
     }
 
     /// The next byte.
@@ -46,19 +54,6 @@ impl<'a> Cursor<'a> {
         self.at += count;
     }
 
-    /// Goes past the next byte, and returns it.
-    pub fn next_byte(&mut self) -> Option<u8>
-        ensures some { IfSome result (λ b. left self.old ≡ b ∷ left self.new) }
-        ensures none { IfNone result (left self.old ≡ []) }
-    {
-        if self.at >= self.input.len() {
-            return None;
-        }
-        let byte = self.input[self.at];
-        self.at += 1;
-        Some(byte)
-    }
-
     /// Goes past this byte, if it is next.
     pub fn eat(&mut self, byte: u8) -> bool
         ensures eaten { IsTrue result → left self.old ≡ byte ∷ left self.new }
@@ -71,19 +66,6 @@ impl<'a> Cursor<'a> {
             return false;
         }
         self.at += 1;
-        true
-    }
-
-    /// Goes past this word, if it is next.
-    pub fn eat_word(&mut self, word: &[u8]) -> bool
-        ensures eaten { IsTrue result → left self.old ≡ word.now ++ left self.new }
-        ensures other { result ≡ false → (r : List ℕ) → left self.old ≡ word.now ++ r → ⊥ }
-        ensures unmoved { result ≡ false → left self.new ≡ left self.old }
-    {
-        if !self.rest().starts_with(word) {
-            return false;
-        }
-        self.advance(word.len());
         true
     }
 }

@@ -1,14 +1,18 @@
-ghost use Rattle.std.specs.Prelude.{◌≡◌, ℕ, ◌+◌, ◌*◌, ◌^◌, ◌<◌, List, ◌∷◌, length, Some, IfSome, IfNone, true, ◌&&◌, SomeIff};
-ghost use Rattle.std.specs.Char.{encode_utf8};
-ghost use Rattle.ld_tree.specs.Reading.{hex, more_hex, escaped, of_pair, is_high_half as high_half, is_low_half as low_half, IsChar};
+ghost use Rattle.std.specs.Prelude.{◌≡◌, ℕ, ◌+◌, ◌*◌, ◌^◌, ◌<◌, ◌≤◌, List, ◌∷◌, length, Some, IfOk, IfErr, IfSome, IfNone};
+ghost use Rattle.std.specs.Char.{encode_utf8, IsScalar};
+ghost use Rattle.ld_tree.specs.Reading.{hex, escaped, of_pair, IsChar};
 ghost use Rattle.ld_tree_read.specs.Cursor.{left};
-ghost use Rattle.ld_tree_read.specs.Tokens.{IsUnit};
+ghost use Rattle.ld_tree_read.specs.State.{Inside, plain, slash, first, digits, high as high_half, low_slash, is_letter};
+ghost use Rattle.ld_tree_read.specs.Strings.{LeadsIn, StopsIn, IsHex, NoHex, Follows, NoByte, TakesHex};
+ghost use Rattle.ld_tree_read.specs.Tokens.{IsTwo, IsUnit};
 
 use crate::cursor::Cursor;
+use crate::number::no_text;
+use crate::refusal::ReadRefusal;
 
+/// What a hexadecimal digit stands for.
 fn hex_digit(byte: u8) -> Option<u8>
-    ensures value { result ≡ hex byte }
-    ensures low { IfSome result (λ d. d < 16) }
+    ensures { result ≡ hex byte }
 {
     match byte {
         b'0'..=b'9' => Some(byte - b'0'),
@@ -18,55 +22,100 @@ fn hex_digit(byte: u8) -> Option<u8>
     }
 }
 
-fn add_digit(value: u32, byte: u8) -> Option<u32>
-    requires { value < 2 ^ 24 }
-    ensures value { result ≡ more_hex (Some value) (hex byte) }
-    ensures low { IfSome result (λ n. n < 16 * value + 16) }
+/// The hexadecimal digit that is next, if it is from `low` to `high`.
+fn next_hex(cursor: &Cursor<'_>, low: u8, high: u8) -> Option<u8>
+    ensures some { IfSome result (λ v. IsHex (left cursor.now) v low high) }
+    ensures none { IfNone result (NoHex (left cursor.now) low high) }
 {
-    match hex_digit(byte) {
-        Some(digit) => Some(16 * value + digit as u32),
-        None => None,
-    }
-}
-
-/// The code unit of UTF-16 that four hexadecimal digits stand for.
-fn read_unit(cursor: &mut Cursor<'_>) -> Option<u32>
-    ensures found { IfSome result (λ u. IsUnit (left cursor.old) u (left cursor.new)) }
-    ensures low { IfSome result (λ u. u < 65536) }
-    ensures shorter { IfSome result (λ _. length (left cursor.new) < length (left cursor.old)) }
-    ensures none { IfNone result ((u : ℕ) (r : List ℕ) → IsUnit (left cursor.old) u r → ⊥) }
-{
-    let first = add_digit(0, cursor.next_byte()?)?;
-    let second = add_digit(first, cursor.next_byte()?)?;
-    let third = add_digit(second, cursor.next_byte()?)?;
-    add_digit(third, cursor.next_byte()?)
-}
-
-/// The character of two surrogates, if they are the first half of a pair and the second.
-fn paired(high: u32, low: u32) -> Option<char>
-    ensures { SomeIff result (high_half high && low_half low ≡ true) (of_pair high low) }
-{
-    if high < 0xD800 || high >= 0xDC00 || low < 0xDC00 || low >= 0xE000 {
+    let value = hex_digit(cursor.peek()?)?;
+    if value < low || value > high {
         return None;
     }
-    char::from_u32(0x1_0000 + 1024 * (high - 0xD800) + (low - 0xDC00))
+    Some(value)
 }
 
-/// The character that a backslash and a `u` begin, which have been passed.
-fn read_unicode(cursor: &mut Cursor<'_>) -> Option<char>
-    ensures found { IfSome result (λ c. IsChar (92 ∷ 117 ∷ left cursor.old) (encode_utf8 c) (left cursor.new)) }
-    ensures shorter { IfSome result (λ _. length (left cursor.new) < length (left cursor.old)) }
-    ensures none { IfNone result ((m r : List ℕ) → IsChar (92 ∷ 117 ∷ left cursor.old) m r → ⊥) }
+/// Goes past a hexadecimal digit from `low` to `high`.
+fn eat_hex(cursor: &mut Cursor<'_>, low: u8, high: u8) -> Result<u8, ReadRefusal>
+    ensures leads { IfOk result (λ v. Follows cursor.old cursor.new (λ b. (hex b ≡ Some v) × (low ≤ v) × (v ≤ high))) }
+    ensures stops { IfErr result (λ e. (i : Inside) → TakesHex i low high → StopsIn cursor.old i e) }
 {
-    let first = read_unit(cursor)?;
-    if let Some(c) = char::from_u32(first) {
-        return Some(c);
+    let Some(value) = next_hex(cursor, low, high) else {
+        return Err(no_text(cursor));
+    };
+    cursor.advance(1);
+    Ok(value)
+}
+
+/// The last two digits of four.
+fn two_digits(cursor: &mut Cursor<'_>) -> Result<u32, ReadRefusal>
+    ensures found { IfOk result (λ v. IsTwo (left cursor.old) v (left cursor.new)) }
+    ensures low { IfOk result (λ v. v < 256) }
+    ensures leads { IfOk result (λ _. LeadsIn cursor.old (digits 1) cursor.new plain) }
+    ensures half { IfOk result (λ _. LeadsIn cursor.old (high_half 1) cursor.new low_slash) }
+    ensures shorter { IfOk result (λ _. length (left cursor.new) ≤ length (left cursor.old)) }
+    ensures stops { IfErr result (λ e. StopsIn cursor.old (digits 1) e) }
+    ensures half_stops { IfErr result (λ e. StopsIn cursor.old (high_half 1) e) }
+{
+    let third = eat_hex(cursor, 0, 15)?;
+    let fourth = eat_hex(cursor, 0, 15)?;
+    Ok(16 * third as u32 + fourth as u32)
+}
+
+/// The second half of a pair of surrogates, with its backslash and `u`.
+fn read_low_half(cursor: &mut Cursor<'_>) -> Result<u32, ReadRefusal>
+    ensures found { IfOk result (λ v. (bytes : List ℕ) × (left cursor.old ≡ 92 ∷ 117 ∷ bytes) × IsUnit bytes v (left cursor.new)) }
+    ensures from { IfOk result (λ v. 56320 ≤ v) }
+    ensures below { IfOk result (λ v. v < 57344) }
+    ensures leads { IfOk result (λ _. LeadsIn cursor.old low_slash cursor.new plain) }
+    ensures shorter { IfOk result (λ _. length (left cursor.new) ≤ length (left cursor.old)) }
+    ensures stops { IfErr result (λ e. StopsIn cursor.old low_slash e) }
+{
+    if !cursor.eat(b'\\') {
+        return Err(no_text(cursor));
     }
-    if !cursor.eat_word(b"\\u") {
-        return None;
+    if !cursor.eat(b'u') {
+        return Err(no_text(cursor));
     }
-    let second = read_unit(cursor)?;
-    paired(first, second)
+    let first = eat_hex(cursor, 13, 13)?;
+    let second = eat_hex(cursor, 12, 15)?;
+    let rest = two_digits(cursor)?;
+    Ok(4096 * first as u32 + 256 * second as u32 + rest)
+}
+
+/// The character of this number.
+fn character(number: u32) -> char
+    requires { IsScalar number }
+    ensures { result ≡ number }
+{
+    match char::from_u32(number) {
+        Some(c) => c,
+        None => '\0',
+    }
+}
+
+/// The character that four digits behind `\u` stand for, with those of a pair's second half where they
+/// are its first (RFC 8259 section 7).
+fn read_unit(cursor: &mut Cursor<'_>) -> Result<char, ReadRefusal>
+    ensures found { IfOk result (λ c. IsChar (92 ∷ 117 ∷ left cursor.old) (encode_utf8 c) (left cursor.new)) }
+    ensures leads { IfOk result (λ _. LeadsIn cursor.old first cursor.new plain) }
+    ensures shorter { IfOk result (λ _. length (left cursor.new) ≤ length (left cursor.old)) }
+    ensures stops { IfErr result (λ e. StopsIn cursor.old first e) }
+{
+    let one = eat_hex(cursor, 0, 15)?;
+    if one != 13 {
+        let two = eat_hex(cursor, 0, 15)?;
+        let rest = two_digits(cursor)?;
+        return Ok(character(4096 * one as u32 + 256 * two as u32 + rest));
+    }
+    let two = eat_hex(cursor, 0, 11)?;
+    if two < 8 {
+        let rest = two_digits(cursor)?;
+        return Ok(character(4096 * one as u32 + 256 * two as u32 + rest));
+    }
+    let rest = two_digits(cursor)?;
+    let high = 4096 * one as u32 + 256 * two as u32 + rest;
+    let low = read_low_half(cursor)?;
+    Ok(character(0x1_0000 + 1024 * (high - 0xD800) + (low - 0xDC00)))
 }
 
 /// What one letter after a backslash stands for.
@@ -86,18 +135,27 @@ fn escape(letter: u8) -> Option<u8>
     }
 }
 
-/// The character that a backslash begins, which has been passed (RFC 8259 section 7).
-pub fn read_escape(cursor: &mut Cursor<'_>) -> Option<char>
-    ensures found { IfSome result (λ c. IsChar (92 ∷ left cursor.old) (encode_utf8 c) (left cursor.new)) }
-    ensures shorter { IfSome result (λ _. length (left cursor.new) < length (left cursor.old)) }
-    ensures none { IfNone result ((m r : List ℕ) → IsChar (92 ∷ left cursor.old) m r → ⊥) }
+/// What the letter that is next stands for, if it is one that may follow a backslash by itself.
+fn next_letter(cursor: &Cursor<'_>) -> Option<u8>
+    ensures some { IfSome result (λ v. (b : ℕ) × (r : List ℕ) × (left cursor.now ≡ b ∷ r) × (escaped b ≡ Some v)) }
+    ensures none { IfNone result (NoByte (left cursor.now) is_letter) }
 {
-    let letter = cursor.next_byte()?;
-    if letter == b'u' {
-        return read_unicode(cursor);
+    escape(cursor.peek()?)
+}
+
+/// The character that a backslash begins, which has been passed (RFC 8259 section 7).
+pub fn read_escape(cursor: &mut Cursor<'_>) -> Result<char, ReadRefusal>
+    ensures found { IfOk result (λ c. IsChar (92 ∷ left cursor.old) (encode_utf8 c) (left cursor.new)) }
+    ensures leads { IfOk result (λ _. LeadsIn cursor.old slash cursor.new plain) }
+    ensures shorter { IfOk result (λ _. length (left cursor.new) ≤ length (left cursor.old)) }
+    ensures stops { IfErr result (λ e. StopsIn cursor.old slash e) }
+{
+    if cursor.eat(b'u') {
+        return read_unit(cursor);
     }
-    match escape(letter) {
-        Some(c) => Some(c as char),
-        None => None,
-    }
+    let Some(value) = next_letter(cursor) else {
+        return Err(no_text(cursor));
+    };
+    cursor.advance(1);
+    Ok(value as char)
 }

@@ -1,6 +1,6 @@
 use Rattle.std.proofs.Common.{ap}
 use Rattle.std.specs.Prelude.{Err}
-use Rattle.ld_once.proofs.Replied.{IfOk-map, IsReply-answer, IsReply-no_envelope, IsReply-no_json}
+use Rattle.ld_once.proofs.Replied.{IfOk-map, IsReply-answer, IsReply-no_envelope, IsReply-unread}
 use Rattle.ld_once.proofs.reply.reply_to_envelope.Goals as goal
 
 pub returns-in-Some : goal.returns-in-Some
@@ -10,6 +10,5 @@ returns-in-Some c =
 pub returns-in-Ok : goal.returns-in-Ok
 returns-in-Ok c = IfOk-map c.refuse.result _ _ (λ r. IsReply-no_envelope c.args.bytes.now c.in-Ok.tree c.in-Ok.ensures.found c.in-None.ensures r.status r.text.items) c.refuse.ensures
 
-pub returns-in-Err-NotRead : goal.returns-in-Err-NotRead
-returns-in-Err-NotRead c =
-    IfOk-map c.refuse-in-Err-NotRead.result _ _ (λ r. IsReply-no_json c.args.bytes.now (c.in-Err-NotRead.ensures.refused (ap Err c.in-Err-NotRead.field-0-is)) r.status r.text.items) c.refuse-in-Err-NotRead.ensures
+pub returns-in-Err : goal.returns-in-Err
+returns-in-Err c = IfOk-map c.refuse_json.result _ _ (λ r. IsReply-unread c.args.bytes.now c.in-Err.e c.in-Err.ensures.refused r.status r.text.items) c.refuse_json.ensures
