@@ -60,7 +60,11 @@ fn answers_inputs(rt: HostRuntime) -> Result<(), Fail> {
             not_built,
         ),
         ("[]", Status::Refused, not_built),
-        ("{\"document\":", Status::Refused, "{\"at\":12,\"own\":\"syntax\"}\n"),
+        (
+            "{\"document\":",
+            Status::Refused,
+            "{\"at\":12,\"own\":\"syntax\"}\n",
+        ),
         ("", Status::Refused, "{\"at\":0,\"own\":\"syntax\"}\n"),
     ];
     for (input, status, output) in cases {

@@ -39,12 +39,7 @@ fn trees(rt: HostRuntime) -> Result<(), Fail> {
         b" { \"b\" : [ ] , \"a\" : [ 1.10 , -0 , null , true , false , { } ] } ",
         b"{\"a\":[1.1,0,null,true,false,{}],\"b\":[]}",
     )?;
-    prints(
-        &rt,
-        alloc,
-        b"-9223372036854775808",
-        b"-9223372036854775808",
-    )?;
+    prints(&rt, alloc, b"-9223372036854775808", b"-9223372036854775808")?;
     let mut out = Vec::new(alloc);
     write_tree(&Tree::List(Items::new(alloc)), &mut out)?;
     write_tree(&Tree::Num(Num::OneOne), &mut out)?;
