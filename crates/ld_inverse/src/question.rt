@@ -142,7 +142,7 @@ fn for_graph<'a>(
     Ok((Kind::Typed, "@id"))
 }
 
-// 4.9.1
+// 4.9
 fn for_value<'a>(
     made: &mut Vec<Containers>,
     index: bool,
