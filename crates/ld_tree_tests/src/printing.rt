@@ -10,7 +10,7 @@ fn prints(rt: &impl Abort, alloc: Global, bytes: &[u8], expected: &[u8]) -> Resu
     let tree = read_tree(alloc, bytes)?;
     let mut out = b"x".to_vec(alloc)?;
     write_tree(&tree, &mut out)?;
-    assert_eq!(rt; &out.as_slice()[..1], b"x");
+    assert_eq!(rt; &out.as_slice()[..1], b"x" as &[u8]);
     assert_eq!(rt; &out.as_slice()[1..], expected);
     Ok(())
 }
@@ -43,6 +43,6 @@ fn trees(rt: HostRuntime) -> Result<(), Fail> {
     let mut out = Vec::new(alloc);
     write_tree(&Tree::List(Items::new(alloc)), &mut out)?;
     write_tree(&Tree::Num(Num::OneOne), &mut out)?;
-    assert_eq!(rt; out.as_slice(), b"[]1.1");
+    assert_eq!(rt; out.as_slice(), b"[]1.1" as &[u8]);
     Ok(())
 }
