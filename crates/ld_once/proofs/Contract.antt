@@ -6,32 +6,34 @@ use Rattle.ld_edge.specs.Sides.{Incoming, Outgoing}
 use Rattle.ld_edge.specs.declared.status.Status.{Status}
 use Rattle.ld_edge.specs.declared.status.Status.TheVariants.{Done, Refused, Usage, InputTooLong}
 use Rattle.ld_script.proofs.Scripts.{not_bad}
-use Rattle.ld_tree_read.proofs.Clear.{reads_clear}
 use Rattle.ld_once.proofs.Replied.{not_answered_twice}
 use Rattle.ld_once.specs.declared.command.Command.{Command}
-use Rattle.ld_once.specs.declared.command.Command.TheVariants.{Expand, Schedule}
-use Rattle.ld_once.specs.Runs.{input_limit, IsFormOf, IsAnswered, IsResult, IsWhyNot, Due, Reads, IsReadToEnd, IsReadFor, IsUnlessFailed, Ended, written, write_failed, read_failed, no_memory}
+use Rattle.ld_once.specs.declared.command.Command.TheVariants.{Document, Schedule}
+use Rattle.ld_answer.specs.declared.op.Op.TheVariants.{Expand, Flatten}
+use Rattle.ld_once.specs.Runs.{input_limit, IsFormOf, IsResult, word_of, IsWhyNot, Due, Reads, IsReadToEnd, IsReadFor, IsUnlessFailed, Ended, written, write_failed, read_failed, no_memory}
 
-words_differ : codes "expand" ∷ [] ≡ codes "schedule" ∷ [] → ⊥
-words_differ e = cc
+-- each command has a word of its own
+same_word : (a b : Command) → word_of a ≡ word_of b → a ≡ b
+same_word (Document Expand) (Document Expand) e = refl
+same_word (Document Expand) (Document Flatten) e = cc
+same_word (Document Expand) Schedule e = cc
+same_word (Document Flatten) (Document Expand) e = cc
+same_word (Document Flatten) (Document Flatten) e = refl
+same_word (Document Flatten) Schedule e = cc
+same_word Schedule (Document Expand) e = cc
+same_word Schedule (Document Flatten) e = cc
+same_word Schedule Schedule e = refl
 
 -- the words are one command's
 same_command : (words : List (List ℕ)) (a b : Command) → IsFormOf words a → IsFormOf words b → a ≡ b
-same_command words Expand Expand h k = refl
-same_command words Expand Schedule h k = absurd (words_differ (sym h ∙ k))
-same_command words Schedule Expand h k = absurd (words_differ (sym k ∙ h))
-same_command words Schedule Schedule h k = refl
+same_command words a b h k = same_word a b (only_word (word_of a) (word_of b) (sym h ∙ k))
+  where
+    only_word : (x y : List ℕ) → x ∷ [] ≡ y ∷ [] → x ≡ y
+    only_word x y e = cc
 
-module _ (bytes out out' : List ℕ) where
-  -- an input that a command makes something of isn't refused
-  not_refused : IsAnswered bytes Done out → IsWhyNot Expand bytes out' → ⊥
-  not_refused h (inl unread) = let none : None ≡ Some unread.0 = sym (reads_clear bytes h.1.0 h.1.1) ∙ unread.1 in cc
-  not_refused h (inr (inl other)) = other.0.1 h.0 h.1
-  not_refused h (inr (inr refused)) = not_answered_twice bytes out out' h refused
-
-  not_both : (command : Command) → IsResult command bytes out → IsWhyNot command bytes out' → ⊥
-  not_both Expand h k = not_refused h k
-  not_both Schedule h k = not_bad h.script k.1
+not_both : (bytes out out' : List ℕ) (command : Command) → IsResult command bytes out → IsWhyNot command bytes out' → ⊥
+not_both bytes out out' (Document op) h k = not_answered_twice op bytes out out' h k
+not_both bytes out out' Schedule h k = not_bad h.script k.1
 
 module _ (words : List (List ℕ)) (bytes out out' : List ℕ) where
   once_done : (s : Status) → Due words bytes Done out → Due words bytes s out' → s ≡ Done

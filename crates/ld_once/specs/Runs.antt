@@ -1,28 +1,26 @@
 -- What a run of the program owes.
-use Rattle.std.specs.Prelude.{◌≡◌, ℕ, ◌<◌, ◌≤◌, ◌⊎◌, IsTrue, Option, Some, None, IfSome, Result, Ok, Err, List, [], ◌∷◌, ◌++◌, length, take, codes, decimal}
+use Rattle.std.specs.Prelude.{◌≡◌, ℕ, ◌<◌, ◌≤◌, ◌⊎◌, IsTrue, Option, Some, None, option_map, IfSome, Result, Ok, Err, List, [], ◌∷◌, ◌++◌, length, take, codes, decimal}
 use Rattle.std.specs.Io.KnownBytes.{append_known, prepend_known}
 use Rattle.ld_edge.specs.Faults.{Rose}
 use Rattle.ld_edge.specs.Sides.{Incoming, Outgoing}
 use Rattle.ld_edge.specs.declared.status.Status.{Status}
 use Rattle.ld_edge.specs.declared.status.Status.TheVariants.{Done, Refused, Usage, ReadFault, WriteFault, NoMemory, InputTooLong}
-use Rattle.ld_codes.specs.Codes.{text_of}
-use Rattle.ld_codes.specs.Keywords.{keyword_text}
-use Rattle.ld_codes.specs.declared.own.Own.TheVariants.{NestingLimit, OutsideProfile}
-use Rattle.ld_tree.specs.CompactText.{text, quoted}
+use Rattle.ld_answer.specs.Answers.{answered}
+use Rattle.ld_answer.specs.Bodies.{code_body, own_body, own_text_body, refusal_body}
+use Rattle.ld_answer.specs.Envelopes.{IsAccepted, IsRefused}
+use Rattle.ld_answer.specs.declared.envelope.Envelope.{Envelope}
+use Rattle.ld_answer.specs.declared.op.Op.{Op}
+use Rattle.ld_answer.specs.declared.op.Op.TheVariants.{Expand, Flatten}
+use Rattle.ld_answer.specs.declared.refusal.EnvelopeRefusal.{EnvelopeRefusal}
+use Rattle.ld_tree.specs.CompactText.{text}
 use Rattle.ld_tree.specs.Maps.{empty}
-use Rattle.ld_tree.specs.declared.tree.Tree.{Tree, out-Tree}
-use Rattle.ld_tree.specs.declared.tree.Tree.TheOpen.{Tree-F}
-use Rattle.ld_tree.specs.Reading.{reads}
-use Rattle.ld_tree_read.specs.Refusals.{first_refusal}
-use Rattle.ld_tree_read.specs.declared.refusal.ReadRefusal.{ReadRefusal}
-use Rattle.ld_tree_read.specs.declared.refusal.ReadRefusal.TheVariants as json
-use Rattle.ld_rec.specs.Expansion.{expanded}
+use Rattle.ld_tree.specs.declared.tree.Tree.{Tree}
 use Rattle.ld_rec.specs.declared.stop.Stop.{Stop}
 use Rattle.ld_rec.specs.declared.stop.Stop.TheVariants as stop
 use Rattle.ld_script.specs.Scripts.{IsBadAt}
 use Rattle.ld_script.specs.Printed.{IsOutput}
 use Rattle.ld_once.specs.declared.command.Command.{Command}
-use Rattle.ld_once.specs.declared.command.Command.TheVariants.{Expand, Schedule}
+use Rattle.ld_once.specs.declared.command.Command.TheVariants.{Document, Schedule}
 
 -- the greatest length of an input, in bytes
 abbrev pub input_limit : ℕ
@@ -30,7 +28,8 @@ input_limit = 4194304
 
 -- the word of each command
 abbrev pub word_of : Command → List ℕ
-word_of Expand = codes "expand"
+word_of (Document Expand) = codes "expand"
+word_of (Document Flatten) = codes "flatten"
 word_of Schedule = codes "schedule"
 
 -- the words are this command's: its word, alone
@@ -51,75 +50,43 @@ usage = line (codes "usage: expand | compact | flatten | schedule | soak <n> | s
 abbrev pub input_too_long : List ℕ
 input_too_long = line (codes "{\"own\":\"input too long\"}")
 
--- no JSON text that is read goes on at this place, and what is wrong there
-abbrev pub refused_at : ℕ → List ℕ → List ℕ
-refused_at at what = line (codes "{\"at\":" ++ decimal at ++ codes ",\"own\":\"" ++ what ++ codes "\"}")
-
--- why an input isn't read
-abbrev pub json_body : ReadRefusal → Option (List ℕ)
-json_body (json.Syntax at) = Some (refused_at at (codes "syntax"))
-json_body (json.NotUtf8 at) = Some (refused_at at (codes "not utf-8"))
-json_body (json.Fraction at) = Some (refused_at at (codes "fractional number"))
-json_body (json.TooLarge at) = Some (refused_at at (codes "number too large"))
-json_body (json.TooDeep at) = Some (refused_at at (codes "too deep"))
-json_body json.NoMemory = None
-
-abbrev pub not_built : List ℕ
-not_built = line (codes "{\"own\":\"not built\"}")
+-- a body, and a line feed
+abbrev pub body_line : Tree → List ℕ
+body_line body = line (text body)
 
 -- the line of this number is none of a script
 abbrev pub bad_line : ℕ → List ℕ
 bad_line number = line (codes "{\"line\":" ++ decimal number ++ codes ",\"own\":\"script\"}")
 
--- an envelope is a map whose one name is `document`
-abbrev pub IsEnvelopeAt : Tree-F Tree → Tree → Type 0
-IsEnvelopeAt (Tree-F.Map entries) document = entries.0 ≡ (codes "document", document) ∷ []
-IsEnvelopeAt _ document = ⊥
-
-abbrev pub IsEnvelope : Tree → Tree → Type 0
-IsEnvelope tree document = IsEnvelopeAt (out-Tree tree) document
-
--- the input is an envelope with this document
-abbrev pub HasDocument : List ℕ → Tree → Type 0
-HasDocument bytes document = (tree : Tree) × reads bytes tree × IsEnvelope tree document
-
--- the input isn't read as JSON, and this says why
-abbrev pub IsUnread : List ℕ → List ℕ → Type 0
-IsUnread bytes out = (e : ReadRefusal) × (first_refusal bytes ≡ Some e) × (json_body e ≡ Some out)
-
--- the input is JSON, but no envelope
-abbrev pub IsNoEnvelope : List ℕ → Type 0
-IsNoEnvelope bytes = ((tree : Tree) × reads bytes tree) × ((document : Tree) → HasDocument bytes document → ⊥)
-
--- what a document comes to: its expansion without a base, over no documents that it could name as contexts
-abbrev pub comes_to : Tree → Result Tree Stop
-comes_to document = (expanded empty None document).result
-
--- why it has no expansion; a document that it names isn't there yet
-abbrev pub body_of : Stop → Option (List ℕ)
-body_of (stop.Code code) = Some (line (codes "{\"code\":" ++ quoted (text_of code) ++ codes "}"))
-body_of (stop.Own NestingLimit) = Some (line (codes "{\"own\":\"nesting limit\"}"))
-body_of (stop.Own (OutsideProfile keyword)) = Some (line (codes "{\"keyword\":" ++ quoted (keyword_text keyword) ++ codes ",\"own\":\"outside profile\"}"))
-body_of (stop.Missing iri) = Some not_built
+-- why a document has no result; a context that it names isn't there yet
+abbrev pub body_of : Stop → Option Tree
+body_of (stop.Code code) = Some (code_body code)
+body_of (stop.Own own) = Some (own_body own)
+body_of (stop.Missing iri) = Some (own_text_body (codes "not built"))
 body_of stop.NoMemory = None
 
--- what is answered for it
+-- what is answered for what an envelope comes to
 abbrev pub IsAnswer : Result Tree Stop → Status → List ℕ → Type 0
-IsAnswer (Ok tree) Done out = out ≡ line (text tree)
-IsAnswer (Err e) Refused out = body_of e ≡ Some out
+IsAnswer (Ok tree) Done out = out ≡ body_line tree
+IsAnswer (Err e) Refused out = option_map body_line (body_of e) ≡ Some out
 IsAnswer _ status out = ⊥
 
-abbrev pub IsAnswered : List ℕ → Status → List ℕ → Type 0
-IsAnswered bytes status out = (document : Tree) × HasDocument bytes document × IsAnswer (comes_to document) status out
+-- the input is an envelope, which is answered over no documents that it could name as contexts
+abbrev pub IsAnswered : Op → List ℕ → Status → List ℕ → Type 0
+IsAnswered op bytes status out = (envelope : Envelope) × IsAccepted op bytes envelope × IsAnswer (answered empty op envelope) status out
 
--- what a command makes of an input: an envelope's document is expanded, and a script is run
+-- the input is no envelope
+abbrev pub IsNoEnvelope : Op → List ℕ → List ℕ → Type 0
+IsNoEnvelope op bytes out = (e : EnvelopeRefusal) × IsRefused op bytes e × (option_map body_line (refusal_body e) ≡ Some out)
+
+-- what a command makes of an input: an envelope's document is answered, and a script is run
 abbrev pub IsResult : Command → List ℕ → List ℕ → Type 0
-IsResult Expand bytes out = IsAnswered bytes Done out
+IsResult (Document op) bytes out = IsAnswered op bytes Done out
 IsResult Schedule bytes out = IsOutput bytes out
 
 -- why it makes nothing of it
 abbrev pub IsWhyNot : Command → List ℕ → List ℕ → Type 0
-IsWhyNot Expand bytes out = IsUnread bytes out ⊎ (IsNoEnvelope bytes × (out ≡ not_built)) ⊎ IsAnswered bytes Refused out
+IsWhyNot (Document op) bytes out = IsNoEnvelope op bytes out ⊎ IsAnswered op bytes Refused out
 IsWhyNot Schedule bytes out = (number : ℕ) × IsBadAt bytes number × (out ≡ bad_line number)
 
 -- what a whole input within the limit is answered: each status, when it is due, and the text that goes with it

@@ -1,11 +1,13 @@
 ghost use Rattle.std.specs.Prelude.{◌≡◌, List, MatchOption, map, string_bytes};
 ghost use Rattle.ld_once.specs.Runs.{IsForm, IsFormOf, word_of};
 
+use ld_answer::Op;
+
 /// What the words ask for.
 #[derive(Clone, Copy, Debug, PartialEq, Eq)]
 pub enum Command {
-    /// The expanded form of the document of an envelope.
-    Expand,
+    /// What the document of an envelope comes to.
+    Document(Op),
     /// What a script of store events prints.
     Schedule,
 }
@@ -25,7 +27,9 @@ impl Command {
         ensures { MatchOption result ((command : Command) → word.now ≡ word_of command → ⊥) (λ command. word.now ≡ word_of command) }
     {
         if word == "expand" {
-            Some(Command::Expand)
+            Some(Command::Document(Op::Expand))
+        } else if word == "flatten" {
+            Some(Command::Document(Op::Flatten))
         } else if word == "schedule" {
             Some(Command::Schedule)
         } else {

@@ -38,7 +38,6 @@ pub fn run(
 
 #[test]
 fn answers_inputs(rt: HostRuntime) -> Result<(), Fail> {
-    let not_built = "{\"own\":\"not built\"}\n";
     let cases = [
         (ANN, Status::Done, ANN_EXPANDED),
         (
@@ -49,27 +48,76 @@ fn answers_inputs(rt: HostRuntime) -> Result<(), Fail> {
         ("{\"document\":{}}", Status::Done, "[]\n"),
         ("{\"document\":null}", Status::Done, "[]\n"),
         ("{\"document\":[]}", Status::Done, "[]\n"),
+        ("{\"document\":{},\"base\":null}", Status::Done, "[]\n"),
+        (
+            "{\"document\":{\"@id\":\"x\",\"http://e/p\":1},\"base\":\"http://e/d/doc\"}",
+            Status::Done,
+            "[{\"@id\":\"http://e/d/x\",\"http://e/p\":[{\"@value\":1}]}]\n",
+        ),
         (
             "{\"document\":{\"@context\":\"http://c/x\"}}",
             Status::Refused,
-            not_built,
+            "{\"own\":\"not built\"}\n",
+        ),
+        ("[]", Status::Refused, "{\"own\":\"not an envelope\"}\n"),
+        (
+            "{\"base\":null}",
+            Status::Refused,
+            "{\"own\":\"not an envelope\"}\n",
         ),
         (
-            "{\"document\":{},\"base\":null}",
+            "{\"document\":1,\"x\":2}",
             Status::Refused,
-            not_built,
+            "{\"field\":\"x\",\"own\":\"unknown field\"}\n",
         ),
-        ("[]", Status::Refused, not_built),
+        (
+            "{\"document\":1,\"base\":\"x\"}",
+            Status::Refused,
+            "{\"field\":\"base\",\"own\":\"wrong kind\"}\n",
+        ),
         (
             "{\"document\":",
             Status::Refused,
             "{\"at\":12,\"own\":\"syntax\"}\n",
         ),
         ("", Status::Refused, "{\"at\":0,\"own\":\"syntax\"}\n"),
+        (
+            "{\"document\":{\"http://e/p\":1.5}}",
+            Status::Refused,
+            "{\"at\":26,\"own\":\"fractional number\"}\n",
+        ),
     ];
     for (input, status, output) in cases {
         let bytes = input.as_bytes().to_vec(rt.alloc())?;
         let seen = run(rt.alloc(), &["expand"], bytes, 7, &[], &[])?;
+        assert_eq!(rt; seen.0, status, "{input}");
+        assert_eq!(rt; seen.1.bytes(), output.as_bytes(), "{input}");
+    }
+    Ok(())
+}
+
+#[test]
+fn flattens_documents(rt: HostRuntime) -> Result<(), Fail> {
+    let cases = [
+        (
+            "{\"document\":{\"@id\":\"http://e/a\",\"http://e/k\":{\"http://e/n\":\"x\"}}}",
+            Status::Done,
+            "[{\"@id\":\"_:b0\",\"http://e/n\":[{\"@value\":\"x\"}]},{\"@id\":\"http://e/a\",\"http://e/k\":[{\"@id\":\"_:b0\"}]}]\n",
+        ),
+        (
+            "{\"document\":[{\"@id\":\"http://e/a\",\"@index\":\"x\"},{\"@id\":\"http://e/a\",\"@index\":\"y\"}]}",
+            Status::Refused,
+            "{\"code\":\"conflicting indexes\"}\n",
+        ),
+        (
+            "{\"document\":{\"@context\":{\"a\":\"b:x\",\"b\":\"a:y\"}}}",
+            Status::Refused,
+            "{\"code\":\"cyclic IRI mapping\"}\n",
+        ),
+    ];
+    for (input, status, output) in cases {
+        let bytes = input.as_bytes().to_vec(rt.alloc())?;
+        let seen = run(rt.alloc(), &["flatten"], bytes, 7, &[], &[])?;
         assert_eq!(rt; seen.0, status, "{input}");
         assert_eq!(rt; seen.1.bytes(), output.as_bytes(), "{input}");
     }

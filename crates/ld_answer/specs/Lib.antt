@@ -1,0 +1,4 @@
+pub mod Envelopes
+pub mod Readings
+pub mod Answers
+pub mod Bodies

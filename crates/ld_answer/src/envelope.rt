@@ -1,0 +1,14 @@
+ghost use Rattle.std.specs.Prelude.{◌≡◌, true};
+ghost use Rattle.std.specs.Option.{ForSome};
+ghost use Rattle.ld_iri.specs.Words.{is_iri};
+
+use ld_tree::{Iri, Tree};
+
+/// A document, with what is asked for it.
+#[derive(Debug, Drop)]
+pub struct Envelope {
+    pub document: Tree,
+    /// The base IRI of the document.
+    pub base: Option<Iri>,
+    pub ghost is_base: { ForSome base (λ text. is_iri text ≡ true) },
+}

@@ -1,0 +1,8 @@
+/// What is asked for a document.
+#[derive(Clone, Copy, Debug, PartialEq, Eq)]
+pub enum Op {
+    /// Its expanded form (JSON-LD 1.1 API, 9.1, `expand`).
+    Expand,
+    /// Its flattened form (9.1, `flatten`).
+    Flatten,
+}
