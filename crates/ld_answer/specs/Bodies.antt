@@ -11,7 +11,8 @@ use Rattle.ld_tree.specs.declared.tree.Tree.TheOpen.{Tree-F}
 use Rattle.ld_tree.specs.declared.tree.Tree.TheViews.{roll-Tree}
 use Rattle.ld_tree_read.specs.declared.refusal.ReadRefusal.{ReadRefusal}
 use Rattle.ld_tree_read.specs.declared.refusal.ReadRefusal.TheVariants as unread
-use Rattle.ld_rec.specs.Kinds.{one_entry, two_entries, text_tree}
+use Rattle.ld_tree.specs.Maps.{empty, put}
+use Rattle.ld_rec.specs.Kinds.{map_of, one_entry, two_entries, text_tree}
 use Rattle.ld_answer.specs.declared.refusal.EnvelopeRefusal.{EnvelopeRefusal}
 use Rattle.ld_answer.specs.declared.refusal.EnvelopeRefusal.TheVariants as refusal
 
@@ -30,12 +31,12 @@ abbrev pub own_body : Own → Tree
 own_body NestingLimit = own_text_body (codes "nesting limit")
 own_body (OutsideProfile keyword) = own_about_body (codes "keyword") (text_tree (keyword_text keyword)) (codes "outside profile")
 
--- the place in the input; no input is as long as the greatest that is written
-abbrev pub place_tree : ℕ → Tree
-place_tree at = roll-Tree (Tree-F.Num (Whole (pos (min at (2 ^ 63 - 1)))))
+-- a place in the input, or a count; none is above the greatest that is written
+abbrev pub number_tree : ℕ → Tree
+number_tree n = roll-Tree (Tree-F.Num (Whole (pos (min n (2 ^ 63 - 1)))))
 
 abbrev pub at_body : ℕ → List ℕ → Tree
-at_body at own = own_about_body (codes "at") (place_tree at) own
+at_body at own = own_about_body (codes "at") (number_tree at) own
 
 -- why an input is no JSON text
 abbrev pub read_body : ReadRefusal → Option Tree
@@ -53,3 +54,13 @@ refusal_body refusal.NotAnEnvelope = Some (own_text_body (codes "not an envelope
 refusal_body (refusal.UnknownField name) = Some (own_about_body (codes "field") (text_tree name) (codes "unknown field"))
 refusal_body (refusal.WrongKind name) = Some (own_about_body (codes "field") (text_tree name) (codes "wrong kind"))
 refusal_body refusal.NoMemory = None
+
+-- more contexts are needed than a request holds; the first that is missing then
+abbrev pub too_many_body : List ℕ → Tree
+too_many_body iri = own_about_body (codes "iri") (text_tree iri) (codes "too many contexts")
+
+-- the load of this flight failed, with the loader's count of failures before and after it
+abbrev pub load_fault_body : (iri : List ℕ) → (flight before after : ℕ) → Tree
+load_fault_body iri flight before after =
+    map_of (put (put (put (put (put empty (codes "after") (number_tree after)) (codes "before") (number_tree before)) (codes "flight") (number_tree flight)) (codes "iri") (text_tree iri))
+        (codes "own") (text_tree (codes "load fault")))

@@ -2,11 +2,11 @@
 ghost use Rattle.std.specs.Prelude.{◌≡◌, Some, IfOk, codes};
 ghost use Rattle.ld_tree.specs.declared.tree.Tree.{Tree};
 ghost use Rattle.ld_rec.specs.Kinds.{text_tree as tree_of_text};
-ghost use Rattle.ld_answer.specs.Bodies.{at_body, code_body, own_about_body, own_body, own_text_body, place_tree, read_body, refusal_body};
+ghost use Rattle.ld_answer.specs.Bodies.{at_body, code_body, load_fault_body, number_tree, own_about_body, own_body, own_text_body, read_body, refusal_body, too_many_body};
 
 use crate::refusal::EnvelopeRefusal;
 use ld_codes::{Code, Own};
-use ld_expand_value::making::{one_entry, text_tree, two_entries};
+use ld_expand_value::making::{empty, one_entry, put, text_tree, two_entries};
 use ld_tree::{NoMemory, Num, Text, Tree};
 use ld_tree_read::ReadRefusal;
 use std::alloc::Global;
@@ -46,17 +46,17 @@ pub fn own_about_body(alloc: Global, name: &str, about: Tree, own: &str) -> Resu
     two_entries(alloc, name, about, "own", text_tree(alloc, own)?)
 }
 
-// A place in the input, which `min` never cuts: no input is so long.
-fn place_tree(at: usize) -> Tree
-    ensures { result ≡ place_tree at }
+// A place in the input, or a count, which `min` never cuts: none is so great.
+fn number_tree(n: u64) -> Tree
+    ensures { result ≡ number_tree n }
 {
-    Tree::Num(Num::Whole(at.min(i64::MAX as usize) as i64))
+    Tree::Num(Num::Whole(n.min(i64::MAX as u64) as i64))
 }
 
 fn at_body(alloc: Global, at: usize, own: &str) -> Result<Option<Tree>, NoMemory>
     ensures { IfOk result (λ body. body ≡ Some (at_body at own.now)) }
 {
-    Ok(Some(own_about_body(alloc, "at", place_tree(at), own)?))
+    Ok(Some(own_about_body(alloc, "at", number_tree(at as u64), own)?))
 }
 
 fn field_body(alloc: Global, name: &Text, own: &str) -> Result<Option<Tree>, NoMemory>
@@ -91,4 +91,31 @@ pub fn refusal_body(alloc: Global, refusal: &EnvelopeRefusal) -> Result<Option<T
         EnvelopeRefusal::WrongKind(name) => field_body(alloc, name, "wrong kind"),
         EnvelopeRefusal::NoMemory => Ok(None),
     }
+}
+
+/// The body where more contexts are needed than a request holds: `{"iri":"<the missing one>","own":"too many contexts"}`.
+pub fn too_many_body(alloc: Global, iri: &str) -> Result<Tree, NoMemory>
+    ensures { IfOk result (λ body. body ≡ too_many_body iri.now) }
+{
+    own_about_body(alloc, "iri", text_tree(alloc, iri)?, "too many contexts")
+}
+
+/// The body where a load failed, with the loader's count of failures before and after it:
+/// `{"after":<count>,"before":<count>,"flight":<number>,"iri":"<context>","own":"load fault"}`.
+pub fn load_fault_body(
+    alloc: Global,
+    iri: &str,
+    flight: u32,
+    before: u64,
+    after: u64,
+) -> Result<Tree, NoMemory>
+    ensures { IfOk result (λ body. body ≡ load_fault_body iri.now flight before after) }
+{
+    let mut entries = empty(alloc);
+    put(alloc, &mut entries, "after", number_tree(after))?;
+    put(alloc, &mut entries, "before", number_tree(before))?;
+    put(alloc, &mut entries, "flight", number_tree(flight as u64))?;
+    put(alloc, &mut entries, "iri", text_tree(alloc, iri)?)?;
+    put(alloc, &mut entries, "own", text_tree(alloc, "load fault")?)?;
+    Ok(Tree::Map(entries))
 }

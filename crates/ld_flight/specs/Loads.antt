@@ -19,6 +19,15 @@ entry_of flight url text = record { flight = flight.number; iri = flight.iri; ur
 abbrev pub Answer : Type 0
 Answer = List ℕ × List ℕ
 
+-- what is told of a loader
+pub record Loading : Type 0 where
+  -- the answers that it gave, in their order
+  pub given : List Given
+  -- for each IRI the answers that are to come, where they are told
+  pub held : List ℕ → Option (List Answer)
+  -- how many loads failed
+  pub faults : ℕ
+
 -- the answer is the first of those to come
 abbrev pub IsFirst : List Answer → Answer → Type 0
 IsFirst [] answer = ⊥

@@ -64,11 +64,7 @@ impl<'a, R: Files> FolderLoader<'a, R> {
 }
 
 impl<'a, R: Files> Loader for FolderLoader<'a, R> {
-    ghost given = { λ l. l.given };
-
-    ghost held = { λ l iri. None };
-
-    ghost faults_in = { λ l. l.faults.number };
+    ghost loading = { λ l. record { given = l.given; held = λ iri. None; faults = l.faults.number } };
 
     ghost at_most_last = { λ l. l.faults.in_range };
 

@@ -1,9 +1,8 @@
 //! Loaders: the objects that fetch the texts of contexts.
 ghost use Rattle.std.specs.Prelude.{◌≡◌, ◌≤◌, ◌++◌, ◌∷◌, [], ℕ, List, Option, length, IfOk, IfErr, OnOk, OnErr};
 ghost use Rattle.ld_edge.specs.Faults.{last_count, NeverFalls};
-ghost use Rattle.ld_flight.specs.Loads.{Answer, entry_of, left_of, longest_text, IsNext};
+ghost use Rattle.ld_flight.specs.Loads.{Loading, entry_of, left_of, longest_text, IsNext};
 ghost use Rattle.ld_flight.specs.Refusals.{IsCountedAs};
-ghost use Rattle.ld_flight.specs.declared.given.Given.{Given};
 
 use crate::pass::Pass;
 use ld_tree::{Raw, Url};
@@ -40,14 +39,9 @@ pub struct Refused {
 
 /// Fetches the texts of contexts.
 pub trait Loader {
-    /// The answers that it gave, in their order.
-    ghost given: { Self → List Given };
-
-    /// For each IRI the answers that are to come, where the loader tells them.
-    ghost held: { Self → List ℕ → Option (List Answer) };
-
-    /// How many loads failed. That count never falls, and stands still at 2^63 - 1.
-    ghost faults_in: { Self → ℕ };
+    /// What is told of the answers that it gave, of those that are to come for each IRI, and how many loads failed. That
+    /// count never falls, and stands still at 2^63 - 1.
+    ghost loading: { Self → Loading };
 
     /// Fetches the text of the context that the pass is for.
     fn load(&mut self, alloc: Global, pass: Pass) -> Result<Loaded, Refused>
@@ -55,27 +49,27 @@ pub trait Loader {
         ensures length { IfOk result (λ loaded. length loaded.text ≤ longest_text) }
 
         // What was given gains the answer.
-        ensures given { IfOk result (λ loaded. given self.new ≡ given self.old ++ entry_of pass loaded.url loaded.text ∷ []) }
-        ensures keeps_given { OnErr result (given self.new ≡ given self.old) }
+        ensures given { IfOk result (λ loaded. (loading self.new).given ≡ (loading self.old).given ++ entry_of pass loaded.url loaded.text ∷ []) }
+        ensures keeps_given { OnErr result ((loading self.new).given ≡ (loading self.old).given) }
 
         // Where the answers to come are told, it is the first, and goes unless it is the only one.
-        ensures next { IfOk result (λ loaded. IsNext (held self.old pass.iri) (loaded.url, loaded.text)) }
-        ensures held { OnOk result ((iri : List ℕ) → held self.new iri ≡ left_of iri pass.iri (held self.old iri)) }
-        ensures keeps_held { OnErr result ((iri : List ℕ) → held self.new iri ≡ held self.old iri) }
+        ensures next { IfOk result (λ loaded. IsNext ((loading self.old).held pass.iri) (loaded.url, loaded.text)) }
+        ensures held { OnOk result ((iri : List ℕ) → (loading self.new).held iri ≡ left_of iri pass.iri ((loading self.old).held iri)) }
+        ensures keeps_held { OnErr result ((iri : List ℕ) → (loading self.new).held iri ≡ (loading self.old).held iri) }
 
         // The pass of a refused load comes back, with both counts. It is a fault only where the count rose.
         ensures pass_back { IfErr result (λ refused. refused.pass ≡ pass) }
-        ensures before { IfErr result (λ refused. refused.before ≡ faults_in self.old) }
-        ensures after { IfErr result (λ refused. refused.after ≡ faults_in self.new) }
-        ensures why { IfErr result (λ refused. IsCountedAs refused.why (faults_in self.old) (faults_in self.new)) }
-        ensures keeps_count { OnOk result (faults_in self.new ≡ faults_in self.old) }
-        ensures never_falls { NeverFalls (faults_in self.old) (faults_in self.new) };
+        ensures before { IfErr result (λ refused. refused.before ≡ (loading self.old).faults) }
+        ensures after { IfErr result (λ refused. refused.after ≡ (loading self.new).faults) }
+        ensures why { IfErr result (λ refused. IsCountedAs refused.why (loading self.old).faults (loading self.new).faults) }
+        ensures keeps_count { OnOk result ((loading self.new).faults ≡ (loading self.old).faults) }
+        ensures never_falls { NeverFalls (loading self.old).faults (loading self.new).faults };
 
     /// How many loads failed.
     fn faults(&self) -> u64
-        ensures { result ≡ faults_in self.now };
+        ensures { result ≡ (loading self.now).faults };
 
-    ghost at_most_last: { (loader : Self) → faults_in loader ≤ last_count };
+    ghost at_most_last: { (loader : Self) → (loading loader).faults ≤ last_count };
 }
 
 impl Refused {

@@ -70,11 +70,7 @@ impl MemLoader {
 }
 
 impl Loader for MemLoader {
-    ghost given = { λ l. l.given };
-
-    ghost held = { λ l iri. Some (answers_for iri l.answers) };
-
-    ghost faults_in = { λ l. l.plan.faults.number };
+    ghost loading = { λ l. record { given = l.given; held = λ iri. Some (answers_for iri l.answers); faults = l.plan.faults.number } };
 
     ghost at_most_last = { λ l. l.plan.faults.in_range };
 

@@ -35,6 +35,14 @@ impl Pass {
         &self.iri
     }
 
+    /// Spends the pass, and gives its IRI. Takes no memory.
+    pub fn into_iri(self) -> Iri
+        ensures { result ≡ self.iri }
+    {
+        let Pass { number: _, iri } = self;
+        iri
+    }
+
     /// Spends the pass.
     pub fn end(self) {
         let Pass { number: _, iri: _ } = self;
