@@ -1,5 +1,8 @@
 -- Contexts that a run loads: one after another, each the one that the answer over those before it asks for first and lacks.
 use Rattle.std.specs.Prelude.{◌≡◌, ℕ, ◌+◌, ◌<◌, ◌⊎◌, List, [], ◌∷◌, ◌++◌, length, Option, Result, Err}
+use Rattle.ld_answer.specs.Answers.{answered}
+use Rattle.ld_answer.specs.declared.envelope.Envelope.{Envelope}
+use Rattle.ld_answer.specs.declared.op.Op.{Op}
 use Rattle.ld_ctx.specs.Stocks.{stock_of}
 use Rattle.ld_flight.specs.Loads.{Answer, IsDocument, IsNext, Loading, entry_of}
 use Rattle.ld_flight.specs.declared.given.Given.{Given}
@@ -20,6 +23,9 @@ Held = List ℕ × Doc
 -- what is answered over a stock
 abbrev pub Answering : Type 0
 Answering = Stock → Result Tree Stop
+
+abbrev pub answering : Op → Envelope → Answering
+answering op envelope stock = answered stock op envelope
 
 -- over these documents the answer is that the IRI's is missing
 abbrev pub Lacks : Answering → List Held → List ℕ → Type 0

@@ -1,14 +1,18 @@
 //! The program: one run of what the words ask for, from the bytes read to the bytes written.
 //!
-//! `run_once` is the whole of it, for any source and sink. `main` makes a source of standard input and a
-//! sink of standard output, calls it, and ends with its status.
+//! `run_once` is the whole of it, for any source, sink and loader. `main` makes a source of standard input, a
+//! sink of standard output and a loader of the folder `contexts`, calls it, and ends with its status.
 //!
 //! To be believed: `specs/Runs.antt`, which says what is due for which words and input, and the four ways a
-//! run may end. `specs/Replies.antt` and `specs/Inputs.antt` are of inner steps alone.
+//! run may end; `specs/Outcomes.antt` (what an envelope is answered) and `specs/Loading.antt` (which contexts are loaded
+//! for it). `specs/Replies.antt`, `specs/Underway.antt` and `specs/Inputs.antt` are of inner steps alone.
 #![tactic(auto)]
 
 mod command;
 mod input;
+mod loading;
+#[cfg(test)]
+mod loads;
 mod output;
 mod reply;
 #[cfg(test)]
@@ -18,6 +22,7 @@ mod run;
 mod tests;
 
 use ld_edge::{Status, StdSink, StdSource};
+use ld_flight::FolderLoader;
 use run::run_once;
 use std::alloc::Global;
 use std::env::Env;
@@ -41,7 +46,15 @@ fn main(rt: HostRuntime) -> ExitCode {
         Ok(words) => {
             let mut input = StdSource::new(rt.stdin());
             let mut output = StdSink::new(rt.stdout());
-            run_once(rt.alloc(), words.as_slice(), &mut input, &mut output)
+            let mut loader = FolderLoader::new(rt.alloc(), &rt);
+            let alloc = rt.alloc();
+            run_once(
+                alloc,
+                words.as_slice(),
+                &mut input,
+                &mut output,
+                &mut loader,
+            )
         }
         Err(status) => status,
     };

@@ -1,13 +1,15 @@
 ghost use Rattle.std.specs.Prelude.{◌≡◌, ◌⊎◌, ℕ, List, Some, map, string_bytes};
 ghost use Rattle.ld_edge.specs.declared.status.Status.{Status};
 ghost use Rattle.ld_edge.specs.declared.status.Status.TheVariants as ended;
-ghost use Rattle.ld_once.specs.Runs.{Due, Ended, IsUnlessFailed, Writes, WritesFront};
+ghost use Rattle.ld_flight.specs.Loads.{Loading};
+ghost use Rattle.ld_once.specs.Runs.{Due, Ended, IsForeseen, IsUnlessFailed, Writes, WritesFront};
 
 use crate::command::Command;
 use crate::input::{Input, InputRefusal, read_input};
 use crate::output::write_whole;
 use crate::reply::reply_to;
 use ld_edge::{Sink, Source, Status};
+use ld_flight::Loader;
 use std::alloc::Global;
 
 const USAGE: &[u8] =
@@ -17,34 +19,43 @@ const INPUT_TOO_LONG: &[u8] = b"{\"own\":\"input too long\"}\n";
 
 /// Runs what the words ask for: reads the input, and writes one answer.
 ///
-/// The words are `expand` or `schedule`, alone. The input is one envelope or one script, read to its end, of
-/// at most 4,194,304 bytes.
-pub fn run_once<S: Source, K: Sink>(
+/// The words are `expand`, `flatten` or `schedule`, alone. The input is one envelope or one script, read to its end, of
+/// at most 4,194,304 bytes. A context that an envelope's document names and that isn't there is loaded, and the document
+/// answered anew, with at most 64 contexts.
+pub fn run_once<S: Source, K: Sink, L: Loader>(
     alloc: Global,
     words: &[String],
     input: &mut S,
     output: &mut K,
+    loader: &mut L,
 ) -> Status
     ensures ended { Ended (map string_bytes words.now) (S.incoming input.old) (S.incoming input.new)
-        (K.outgoing output.old) (K.outgoing output.new) result }
+        (K.outgoing output.old) (K.outgoing output.new) (L.loading loader.old) (L.loading loader.new) result }
 
-    // Each status comes exactly where it is due, unless an object failed or memory was wanting.
-    ensures exact { (bytes out : List ℕ) (due : Status) → (S.incoming input.old).left ≡ Some bytes
-        → Due (map string_bytes words.now) bytes due out
-        → IsUnlessFailed due result (S.incoming input.old) (S.incoming input.new) (K.outgoing output.old) (K.outgoing output.new) }
+    // Each status comes exactly where it is due over what the loader tells, unless an object failed or memory was wanting.
+    ensures exact { (bytes out : List ℕ) (due : Status) (after : Loading) → (S.incoming input.old).left ≡ Some bytes
+        → Due (map string_bytes words.now) bytes (L.loading loader.old) after due out → IsForeseen due (L.loading loader.old) after
+        → IsUnlessFailed due result (S.incoming input.old) (S.incoming input.new) (K.outgoing output.old) (K.outgoing output.new)
+        (L.loading loader.old) (L.loading loader.new) }
 {
-    run(alloc, words, input, output)
+    run(alloc, words, input, output, loader)
 }
 
-fn run<S: Source, K: Sink>(alloc: Global, words: &[String], input: &mut S, output: &mut K) -> Status
+fn run<S: Source, K: Sink, L: Loader>(
+    alloc: Global,
+    words: &[String],
+    input: &mut S,
+    output: &mut K,
+    loader: &mut L,
+) -> Status
     ensures { Ended (map string_bytes words.now) (S.incoming input.old) (S.incoming input.new)
-        (K.outgoing output.old) (K.outgoing output.new) result }
+        (K.outgoing output.old) (K.outgoing output.new) (L.loading loader.old) (L.loading loader.new) result }
 {
     let Some(command) = Command::from_words(words) else {
         return finish(output, Status::Usage, USAGE);
     };
     match read_input(alloc, input) {
-        Ok(Input::Whole(bytes)) => match reply_to(alloc, command, bytes.as_slice()) {
+        Ok(Input::Whole(bytes)) => match reply_to(alloc, command, bytes.as_slice(), loader) {
             Ok(reply) => finish(output, reply.status, reply.text.as_slice()),
             Err(_) => Status::NoMemory,
         },

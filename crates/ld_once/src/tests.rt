@@ -2,6 +2,7 @@ ghost use Rattle.std.specs.Prelude.{◌≤◌};
 
 use crate::run::run_once;
 use ld_edge::{MemSink, MemSource, Status};
+use ld_flight::MemLoader;
 use ld_tree::Raw;
 use std::alloc::Global;
 use std::test::Fail;
@@ -15,7 +16,7 @@ const ANN_EXPANDED: &str =
 const USAGE: &str =
     "usage: expand | compact | flatten | schedule | soak <n> | serve <address> <workers> <connections> <every>\n";
 
-// Runs over memory objects that take at most `piece` bytes a call, and fail at the calls listed.
+// Runs over memory objects that take at most `piece` bytes a call, and fail at the calls listed. There is no context to load.
 pub fn run(
     alloc: Global,
     form: &[&str],
@@ -32,7 +33,8 @@ pub fn run(
     }
     let mut source = MemSource::new(Raw::from_vec(input), piece, read_fails.to_vec(alloc)?);
     let mut sink = MemSink::new(alloc, piece, write_fails.to_vec(alloc)?);
-    let status = run_once(alloc, words.as_slice(), &mut source, &mut sink);
+    let mut loader = MemLoader::new(alloc, Vec::new(alloc), Vec::new(alloc));
+    let status = run_once(alloc, words.as_slice(), &mut source, &mut sink, &mut loader);
     Ok((status, sink))
 }
 
@@ -56,8 +58,8 @@ fn answers_inputs(rt: HostRuntime) -> Result<(), Fail> {
         ),
         (
             "{\"document\":{\"@context\":\"http://c/x\"}}",
-            Status::Refused,
-            "{\"own\":\"not built\"}\n",
+            Status::LoadFault,
+            "{\"after\":1,\"before\":0,\"flight\":1,\"iri\":\"http://c/x\",\"own\":\"load fault\"}\n",
         ),
         ("[]", Status::Refused, "{\"own\":\"not an envelope\"}\n"),
         (
