@@ -1,3 +1,4 @@
 pub mod Fields
+pub mod Missing
 pub mod Once
 pub mod Reasons

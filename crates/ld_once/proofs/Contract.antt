@@ -1,16 +1,17 @@
 -- Which status comes, from how the run ended.
-use Rattle.std.proofs.Common.{◌≡◌, ◌∙◌, ◌⊎◌, inl, inr, ℕ, ◌<◌, List, [], ◌∷◌, ◌++◌, length, refl, sym, ap, subst, arith, length-append, append-nil}
+use Rattle.std.proofs.Common.{◌≡◌, ◌∙◌, ◌⊎◌, inl, inr, ℕ, ◌<◌, ◌≤◌, List, [], ◌∷◌, ◌++◌, length, refl, sym, ap, subst, arith, length-append, append-nil}
 use Rattle.std.specs.Prelude.{Option, Some, None, IfSome, codes}
 use Rattle.std.specs.Io.KnownBytes.{prepend_known}
 use Rattle.ld_edge.specs.Sides.{Incoming, Outgoing}
 use Rattle.ld_edge.specs.declared.status.Status.{Status}
-use Rattle.ld_edge.specs.declared.status.Status.TheVariants.{Done, Refused, Usage, InputTooLong}
+use Rattle.ld_edge.specs.declared.status.Status.TheVariants.{Done, Refused, Usage, ReadFault, WriteFault, LoadFault, TooMany, NoMemory, InputTooLong}
 use Rattle.ld_script.proofs.Scripts.{not_bad}
-use Rattle.ld_once.proofs.Replied.{not_answered_twice}
+use Rattle.ld_once.proofs.Replied.{replied_once}
 use Rattle.ld_once.specs.declared.command.Command.{Command}
 use Rattle.ld_once.specs.declared.command.Command.TheVariants.{Document, Schedule}
 use Rattle.ld_answer.specs.declared.op.Op.TheVariants.{Expand, Flatten}
-use Rattle.ld_once.specs.Runs.{input_limit, IsFormOf, IsResult, word_of, IsWhyNot, Due, Reads, IsReadToEnd, IsReadFor, IsUnlessFailed, Ended, written, write_failed, read_failed, no_memory}
+use Rattle.ld_flight.specs.Loads.{Loading}
+use Rattle.ld_once.specs.Runs.{input_limit, IsForm, IsFormOf, IsPrinted, IsReply, word_of, Due, Reads, IsReadToEnd, IsReadFor, IsUnloading, IsUnlessFailed, Ended, written, write_failed, read_failed, no_memory}
 
 -- each command has a word of its own
 same_word : (a b : Command) → word_of a ≡ word_of b → a ≡ b
@@ -31,46 +32,58 @@ same_command words a b h k = same_word a b (only_word (word_of a) (word_of b) (s
     only_word : (x y : List ℕ) → x ∷ [] ≡ y ∷ [] → x ≡ y
     only_word x y e = cc
 
-not_both : (bytes out out' : List ℕ) (command : Command) → IsResult command bytes out → IsWhyNot command bytes out' → ⊥
-not_both bytes out out' (Document op) h k = not_answered_twice op bytes out out' h k
-not_both bytes out out' Schedule h k = not_bad h.script k.1
+printed_once : (bytes : List ℕ) (s t : Status) (out out' : List ℕ) → IsPrinted bytes s out → IsPrinted bytes t out' → t ≡ s
+printed_once bytes Done Done out out' h k = refl
+printed_once bytes Refused Refused out out' h k = refl
+printed_once bytes Done Refused out out' h k = absurd (not_bad h.script k.1)
+printed_once bytes Refused Done out out' h k = absurd (not_bad k.script h.1)
+printed_once bytes Done _ out out' h k = absurd k
+printed_once bytes Refused _ out out' h k = absurd k
+printed_once bytes _ t out out' h k = absurd h
 
-module _ (words : List (List ℕ)) (bytes out out' : List ℕ) where
-  once_done : (s : Status) → Due words bytes Done out → Due words bytes s out' → s ≡ Done
-  once_done Done h k = refl
-  once_done Refused h k = absurd (not_both bytes out out' h.0 h.3 (subst (λ c. IsWhyNot c bytes out') (same_command words k.0 h.0 k.1 h.1) k.3))
-  once_done Usage h k = absurd (k.0 (h.0, h.1))
-  once_done InputTooLong h k = absurd (omega (arith, h.2, k.1))
-  once_done _ h k = absurd k
+reply_once : (command : Command) (bytes : List ℕ) (loader after loader' : Loading) (s t : Status) (out out' : List ℕ) → IsReply command bytes loader after s out
+    → after.given ≡ loader.given → (s ≡ LoadFault → ⊥) → IsReply command bytes loader loader' t out' → t ≡ s
+reply_once (Document op) bytes loader after loader' s t out out' h unloaded other k = replied_once op bytes loader after loader' s t out out' h unloaded other k
+reply_once Schedule bytes loader after loader' s t out out' h unloaded other k = printed_once bytes s t out out' h.0 k.0
 
-  once_refused : (s : Status) → Due words bytes Refused out → Due words bytes s out' → s ≡ Refused
-  once_refused Done h k = absurd (not_both bytes out' out k.0 k.3 (subst (λ c. IsWhyNot c bytes out) (same_command words h.0 k.0 h.1 k.1) h.3))
-  once_refused Refused h k = refl
-  once_refused Usage h k = absurd (k.0 (h.0, h.1))
-  once_refused InputTooLong h k = absurd (omega (arith, h.2, k.1))
-  once_refused _ h k = absurd k
+-- the parts of what is due for an input that is answered
+abbrev AnswerDue : List (List ℕ) → List ℕ → Loading → Loading → Status → List ℕ → Type 0
+AnswerDue words bytes loader loader' status out = (command : Command) × IsFormOf words command × (length bytes ≤ input_limit) × IsReply command bytes loader loader' status out
 
-  once_usage : (s : Status) → Due words bytes Usage out → Due words bytes s out' → s ≡ Usage
-  once_usage Done h k = absurd (h.0 (k.0, k.1))
-  once_usage Refused h k = absurd (h.0 (k.0, k.1))
-  once_usage Usage h k = refl
-  once_usage InputTooLong h k = absurd (h.0 k.0)
-  once_usage _ h k = absurd k
+-- each status is that of the usage line, that of too long an input, or another
+data Way (words : List (List ℕ)) (bytes : List ℕ) (loader loader' : Loading) (out : List ℕ) : Status → Type 0 where
+  usage_way : (IsForm words → ⊥) → Way words bytes loader loader' out Usage
+  long_way : IsForm words → input_limit < length bytes → Way words bytes loader loader' out InputTooLong
+  answer_way : (status : Status) → AnswerDue words bytes loader loader' status out → Way words bytes loader loader' out status
 
-  once_too_long : (s : Status) → Due words bytes InputTooLong out → Due words bytes s out' → s ≡ InputTooLong
-  once_too_long Done h k = absurd (omega (arith, h.1, k.2))
-  once_too_long Refused h k = absurd (omega (arith, h.1, k.2))
-  once_too_long Usage h k = absurd (k.0 h.0)
-  once_too_long InputTooLong h k = refl
-  once_too_long _ h k = absurd k
+way_of : (words : List (List ℕ)) (bytes : List ℕ) (loader loader' : Loading) (out : List ℕ) (s : Status) → Due words bytes loader loader' s out → Way words bytes loader loader' out s
+way_of words bytes loader loader' out Usage h = usage_way h.0
+way_of words bytes loader loader' out InputTooLong h = long_way h.0 h.1
+way_of words bytes loader loader' out Done h = answer_way Done h
+way_of words bytes loader loader' out Refused h = answer_way Refused h
+way_of words bytes loader loader' out ReadFault h = answer_way ReadFault h
+way_of words bytes loader loader' out WriteFault h = answer_way WriteFault h
+way_of words bytes loader loader' out LoadFault h = answer_way LoadFault h
+way_of words bytes loader loader' out TooMany h = answer_way TooMany h
+way_of words bytes loader loader' out NoMemory h = answer_way NoMemory h
 
-  -- one status is due for one input
-  pub Due-once : (s s' : Status) → Due words bytes s out → Due words bytes s' out' → s' ≡ s
-  Due-once Done s' h k = once_done s' h k
-  Due-once Refused s' h k = once_refused s' h k
-  Due-once Usage s' h k = once_usage s' h k
-  Due-once InputTooLong s' h k = once_too_long s' h k
-  Due-once _ s' h k = absurd h
+module _ (words : List (List ℕ)) (bytes out out' : List ℕ) (loader after loader' : Loading) (unloaded : after.given ≡ loader.given) where
+  once : (s t : Status) → (s ≡ LoadFault → ⊥) → Way words bytes loader after out s → Way words bytes loader loader' out' t → t ≡ s
+  once s t other (usage_way no_form) (usage_way no_form') = refl
+  once s t other (usage_way no_form) (long_way form long) = absurd (no_form form)
+  once s t other (usage_way no_form) (answer_way status k) = absurd (no_form (k.0, k.1))
+  once s t other (long_way form long) (usage_way no_form) = absurd (no_form form)
+  once s t other (long_way form long) (long_way form' long') = refl
+  once s t other (long_way form long) (answer_way status k) = absurd (grind (arith, long, k.2))
+  once s t other (answer_way status h) (usage_way no_form) = absurd (no_form (h.0, h.1))
+  once s t other (answer_way status h) (long_way form long) = absurd (grind (arith, long, h.2))
+  once s t other (answer_way status h) (answer_way status' k) =
+      reply_once h.0 bytes loader after loader' status status' out out' h.3 unloaded other
+          (subst (λ c. IsReply c bytes loader loader' status' out') (same_command words k.0 h.0 k.1 h.1) k.3)
+
+  -- where nothing is loaded, one status is due for one input
+  pub Due-once : (s t : Status) → (s ≡ LoadFault → ⊥) → Due words bytes loader after s out → Due words bytes loader loader' t out' → t ≡ s
+  Due-once s t other h k = once s t other (way_of words bytes loader after out s h) (way_of words bytes loader loader' out' t k)
 
 -- what a source that tells its bytes has left, behind those that were read
 rest_told : (left left' : Option (List ℕ)) (bytes read : List ℕ) → left ≡ Some bytes → left ≡ prepend_known read left' → (rest : List ℕ) × (left' ≡ Some rest) × (bytes ≡ read ++ rest)
@@ -92,19 +105,24 @@ module _ (words : List (List ℕ)) (bytes read out : List ℕ) (source source' :
       subst (λ b. input_limit < length b) (sym rest.2) (omega (arith, long, length-append read rest.0))
 
   -- what is due for the bytes read is due for the bytes told
-  Due-told : (s : Status) → Due words read s out → IsReadFor s source source' read → Due words bytes s out
-  Due-told Done h k = subst (λ b. Due words b Done out) (all_read k.0 k.1) h
-  Due-told Refused h k = subst (λ b. Due words b Refused out) (all_read k.0 k.1) h
-  Due-told Usage h k = h
-  Due-told InputTooLong h k = (h.0, too_many k h.1, h.2)
-  Due-told _ h k = absurd h
+  Due-told : (loader loader' : Loading) (s : Status) → Due words read loader loader' s out → IsReadFor s source source' read → Due words bytes loader loader' s out
+  Due-told loader loader' Usage h k = h
+  Due-told loader loader' InputTooLong h k = (h.0, too_many k h.1, h.2, h.3)
+  Due-told loader loader' Done h k = subst (λ b. Due words b loader loader' Done out) (all_read k.0 k.1) h
+  Due-told loader loader' Refused h k = subst (λ b. Due words b loader loader' Refused out) (all_read k.0 k.1) h
+  Due-told loader loader' ReadFault h k = subst (λ b. Due words b loader loader' ReadFault out) (all_read k.0 k.1) h
+  Due-told loader loader' WriteFault h k = subst (λ b. Due words b loader loader' WriteFault out) (all_read k.0 k.1) h
+  Due-told loader loader' LoadFault h k = subst (λ b. Due words b loader loader' LoadFault out) (all_read k.0 k.1) h
+  Due-told loader loader' TooMany h k = subst (λ b. Due words b loader loader' TooMany out) (all_read k.0 k.1) h
+  Due-told loader loader' NoMemory h k = subst (λ b. Due words b loader loader' NoMemory out) (all_read k.0 k.1) h
 
-module _ (words : List (List ℕ)) (source source' : Incoming) (sink sink' : Outgoing) where
-  -- where the source tells its bytes, the status is the one that is due for them, unless an object failed or memory was wanting
-  pub Ended-exact : (s : Status) → Ended words source source' sink sink' s → (bytes out : List ℕ) (due : Status) → source.left ≡ Some bytes → Due words bytes due out
-      → IsUnlessFailed due s source source' sink sink'
-  Ended-exact s (written status read out' h reads writes) bytes out due told k =
-      inl (Due-once words bytes out out' due status k (Due-told words bytes read out' source source' told status h reads))
-  Ended-exact s (write_failed status read out' h reads front) bytes out due told k = inr (inr (inl (refl, front.0)))
-  Ended-exact s (read_failed form rose same) bytes out due told k = inr (inl (refl, rose))
-  Ended-exact s (no_memory form count same) bytes out due told k = inr (inr (inr refl))
+module _ (words : List (List ℕ)) (source source' : Incoming) (sink sink' : Outgoing) (loader loader' : Loading) where
+  -- where the source tells its bytes and nothing is due to be loaded, the status is the one that is due for them, unless an
+  -- object failed or memory was wanting
+  pub Ended-exact : (s : Status) → Ended words source source' sink sink' loader loader' s → (bytes out : List ℕ) (due : Status) (after : Loading) → source.left ≡ Some bytes
+      → Due words bytes loader after due out → IsUnloading due loader after → IsUnlessFailed due s source source' sink sink'
+  Ended-exact s (written status read out' h reads writes) bytes out due after told k unloading =
+      inl (Due-once words bytes out out' loader after loader' unloading.1 due status unloading.0 k (Due-told words bytes read out' source source' told loader loader' status h reads))
+  Ended-exact s (write_failed status read out' h reads front) bytes out due after told k unloading = inr (inr (inl (refl, front.0)))
+  Ended-exact s (read_failed form rose same unasked) bytes out due after told k unloading = inr (inl (refl, rose))
+  Ended-exact s (no_memory form count same cut) bytes out due after told k unloading = inr (inr (inr refl))

@@ -1,5 +1,6 @@
 -- The parts of a reply.
 use Rattle.std.specs.Prelude.{◌≡◌, ◌⊎◌, ℕ, List, Option, Some, option_map}
+use Rattle.ld_edge.specs.Faults.{NeverFalls}
 use Rattle.ld_edge.specs.declared.status.Status.{Status}
 use Rattle.ld_edge.specs.declared.status.Status.TheVariants.{Refused}
 use Rattle.ld_tree.specs.declared.tree.Tree.{Tree}
@@ -34,7 +35,7 @@ pub record IsLoadingCut (command : Command) (bytes : List ℕ) (loader loader' :
   pub envelope : Envelope
   pub accepted : IsAccepted op bytes envelope
   pub in_part : LoadsInPart (answering op envelope) loader loader'
-  pub faults : loader'.faults ≡ loader.faults
+  pub never_falls : NeverFalls loader.faults loader'.faults
 
 -- memory was wanting
 abbrev pub IsUnfinished : Command → List ℕ → (loader loader' : Loading) → Type 0

@@ -1,7 +1,7 @@
 -- What a run of the program owes.
-use Rattle.std.specs.Prelude.{◌≡◌, ℕ, ◌<◌, ◌≤◌, ◌⊎◌, IsTrue, Option, Some, None, option_map, IfSome, IsSome, List, [], ◌∷◌, ◌++◌, length, take, codes, decimal}
+use Rattle.std.specs.Prelude.{◌≡◌, ℕ, ◌<◌, ◌≤◌, ◌⊎◌, IsTrue, Option, Some, None, option_map, IfSome, List, [], ◌∷◌, ◌++◌, length, take, codes, decimal}
 use Rattle.std.specs.Io.KnownBytes.{append_known, prepend_known}
-use Rattle.ld_edge.specs.Faults.{Rose}
+use Rattle.ld_edge.specs.Faults.{NeverFalls, Rose}
 use Rattle.ld_edge.specs.Sides.{Incoming, Outgoing}
 use Rattle.ld_edge.specs.declared.status.Status.{Status}
 use Rattle.ld_edge.specs.declared.status.Status.TheVariants.{Done, Refused, Usage, ReadFault, WriteFault, LoadFault, NoMemory, InputTooLong}
@@ -105,7 +105,7 @@ WritesFront sink sink' out = Rose sink.faults sink'.faults × ((n : ℕ) × (n <
 pub data IsCutShort (words : List (List ℕ)) (source source' : Incoming) (loader loader' : Loading) : Type 0 where
   unasked : loader' ≡ loader → IsCutShort words source source' loader loader'
   in_part : (op : Op) (bytes : List ℕ) (envelope : Envelope) → IsFormOf words (Document op) → Reads source source' bytes → IsAccepted op bytes envelope
-      → LoadsInPart (answering op envelope) loader loader' → loader'.faults ≡ loader.faults → IsCutShort words source source' loader loader'
+      → LoadsInPart (answering op envelope) loader loader' → NeverFalls loader.faults loader'.faults → IsCutShort words source source' loader loader'
 
 -- how a run ended, from what is told of the source, the sink and the loader before and after it
 pub data Ended (words : List (List ℕ)) (source source' : Incoming) (sink sink' : Outgoing) (loader loader' : Loading) : Status → Type 0 where
@@ -117,20 +117,15 @@ pub data Ended (words : List (List ℕ)) (source source' : Incoming) (sink sink'
       → Ended words source source' sink sink' loader loader' WriteFault
   -- the words are a command's, and a read failed
   read_failed : IsForm words → Rose source.faults source'.faults → sink' ≡ sink → loader' ≡ loader → Ended words source source' sink sink' loader loader' ReadFault
-  -- the words are a command's, and no count of failures rose
+  -- the words are a command's, and no read or write failed
   no_memory : IsForm words → source'.faults ≡ source.faults → sink' ≡ sink → IsCutShort words source source' loader loader'
       → Ended words source source' sink sink' loader loader' NoMemory
 
 -- the status is this one, unless an object failed or memory was wanting
-abbrev pub IsUnlessFailed : Status → Status → Incoming → Incoming → Outgoing → Outgoing → Loading → Loading → Type 0
-IsUnlessFailed due status source source' sink sink' loader loader' =
-    (status ≡ due) ⊎ ((status ≡ ReadFault) × Rose source.faults source'.faults) ⊎ ((status ≡ WriteFault) × Rose sink.faults sink'.faults)
-    ⊎ ((status ≡ LoadFault) × Rose loader.faults loader'.faults) ⊎ (status ≡ NoMemory)
+abbrev pub IsUnlessFailed : Status → Status → Incoming → Incoming → Outgoing → Outgoing → Type 0
+IsUnlessFailed due status source source' sink sink' =
+    (status ≡ due) ⊎ ((status ≡ ReadFault) × Rose source.faults source'.faults) ⊎ ((status ≡ WriteFault) × Rose sink.faults sink'.faults) ⊎ (status ≡ NoMemory)
 
--- the loader tells the answers to come for every IRI
-abbrev pub TellsAll : Loading → Type 0
-TellsAll loader = (iri : List ℕ) → IsSome (loader.held iri)
-
--- a load isn't due to fail, and either nothing is loaded or what is loaded is told beforehand
-abbrev pub IsForeseen : Status → Loading → Loading → Type 0
-IsForeseen due loader after = (due ≡ LoadFault → ⊥) × ((after.given ≡ loader.given) ⊎ TellsAll loader)
+-- nothing is due to be loaded
+abbrev pub IsUnloading : Status → Loading → Loading → Type 0
+IsUnloading due loader after = (due ≡ LoadFault → ⊥) × (after.given ≡ loader.given)

@@ -1,8 +1,8 @@
 -- A request whose contexts are being loaded.
 use Rattle.std.specs.Prelude.{◌≡◌, ℕ, ◌+◌, ◌⊎◌, List, [], ◌∷◌, ◌++◌, length, None}
-use Rattle.ld_edge.specs.Faults.{Rose}
+use Rattle.ld_edge.specs.Faults.{NeverFalls, Rose}
 use Rattle.ld_edge.specs.declared.status.Status.{Status}
-use Rattle.ld_edge.specs.declared.status.Status.TheVariants as status
+use Rattle.ld_edge.specs.declared.status.Status.TheVariants as statuses
 use Rattle.ld_answer.specs.Bodies.{load_fault_body}
 use Rattle.ld_ctx.specs.Stocks.{stock_of}
 use Rattle.ld_flight.specs.Loads.{IsDocument, IsNext, Loading, entry_of, left_of}
@@ -39,10 +39,10 @@ pub record IsLoaded (pass : Flight) (before after : Loading) (document : Held) :
 abbrev pub IsJoined : Flight → (before after : Loading) → List Held → List Held → Type 0
 IsJoined pass before after documents documents' = (document : Held) × (documents' ≡ documents ++ document ∷ []) × IsLoaded pass before after document
 
--- one load for which memory was wanting: perhaps it gave a text
+-- one load for which memory was wanting, there or behind it: perhaps it gave a text, and perhaps it failed
 abbrev pub IsCut : Flight → (before after : Loading) → Type 0
 IsCut pass before after =
-    (after.faults ≡ before.faults) × ((after.given ≡ before.given) ⊎ ((entry : Given) × (after.given ≡ before.given ++ entry ∷ []) × (entry.iri ≡ pass.iri)))
+    NeverFalls before.faults after.faults × ((after.given ≡ before.given) ⊎ ((entry : Given) × (after.given ≡ before.given ++ entry ∷ []) × (entry.iri ≡ pass.iri)))
 
 -- one load that failed
 abbrev pub IsFault : Flight → (before after : Loading) → (flight : ℕ) (iri : List ℕ) (from to : ℕ) → Type 0
@@ -57,7 +57,7 @@ IsUnloaded pass before after NoMemory = IsCut pass before after
 pub record IsFaultReply (pass : Flight) (before after : Loading) (status : Status) (out : List ℕ) : Type 0 where
   pub rose : Rose before.faults after.faults
   pub given : after.given ≡ before.given
-  pub status_is : status ≡ status.LoadFault
+  pub status_is : status ≡ statuses.LoadFault
   pub out_is : out ≡ body_line (load_fault_body pass.iri pass.number before.faults after.faults)
 
 -- what is left of a refused load

@@ -3,6 +3,7 @@ ghost use Rattle.std.specs.Prelude.{◌≡◌, ◌+◌, ◌<◌, ◌≤◌, None
 ghost use Rattle.std.specs.Arc.{arc_value};
 ghost use Rattle.ld_ctx.specs.Stocks.{shared_entries, stock_of};
 ghost use Rattle.ld_answer.specs.Answers.{Tells};
+ghost use Rattle.ld_edge.specs.Faults.{NeverFalls};
 ghost use Rattle.ld_flight.specs.Loads.{Loading, IsDocument, longest_text};
 ghost use Rattle.ld_once.specs.Loading.{answering, held_limit, LoadsInPart};
 ghost use Rattle.ld_once.specs.Outcomes.{IsOutcome, IsReached};
@@ -56,7 +57,7 @@ pub fn answer<L: Loader>(
 ) -> Result<Reply, NoMemory>
     ensures reached { IfOk result (λ r. IsReached (answering op envelope.now) (L.loading loader.old) (L.loading loader.new) r.status r.text.items) }
     ensures in_part { OnErr result (LoadsInPart (answering op envelope.now) (L.loading loader.old) (L.loading loader.new)) }
-    ensures keeps_count { OnErr result ((L.loading loader.new).faults ≡ (L.loading loader.old).faults) }
+    ensures never_falls { OnErr result (NeverFalls (L.loading loader.old).faults (L.loading loader.new).faults) }
 {
     let mut tower = Tower::new();
     let mut documents = Vec::new(alloc);
@@ -90,7 +91,7 @@ fn attempt<L: Loader>(
         → IsReached (answering op envelope.now) start (L.loading loader.new) reply.status reply.text.items)) }
     ensures in_part { OnErr result ((start : Loading) → IsUnderway (answering op envelope.now) start (L.loading loader.old) (shared_entries documents.old.items)
         → LoadsInPart (answering op envelope.now) start (L.loading loader.new)) }
-    ensures keeps_count { OnErr result ((L.loading loader.new).faults ≡ (L.loading loader.old).faults) }
+    ensures never_falls { OnErr result (NeverFalls (L.loading loader.old).faults (L.loading loader.new).faults) }
 {
     match outcome(alloc, op, envelope, documents.as_slice())? {
         Outcome::Missing(iri) => load_missing(alloc, loader, tower.lead(iri), documents),

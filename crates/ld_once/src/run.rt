@@ -2,7 +2,7 @@ ghost use Rattle.std.specs.Prelude.{◌≡◌, ◌⊎◌, ℕ, List, Some, map, 
 ghost use Rattle.ld_edge.specs.declared.status.Status.{Status};
 ghost use Rattle.ld_edge.specs.declared.status.Status.TheVariants as ended;
 ghost use Rattle.ld_flight.specs.Loads.{Loading};
-ghost use Rattle.ld_once.specs.Runs.{Due, Ended, IsForeseen, IsUnlessFailed, Writes, WritesFront};
+ghost use Rattle.ld_once.specs.Runs.{Due, Ended, IsUnloading, IsUnlessFailed, Writes, WritesFront};
 
 use crate::command::Command;
 use crate::input::{Input, InputRefusal, read_input};
@@ -32,11 +32,11 @@ pub fn run_once<S: Source, K: Sink, L: Loader>(
     ensures ended { Ended (map string_bytes words.now) (S.incoming input.old) (S.incoming input.new)
         (K.outgoing output.old) (K.outgoing output.new) (L.loading loader.old) (L.loading loader.new) result }
 
-    // Each status comes exactly where it is due over what the loader tells, unless an object failed or memory was wanting.
+    // Where nothing is due to be loaded, each status comes exactly where it is due, unless an object failed or memory was
+    // wanting.
     ensures exact { (bytes out : List ℕ) (due : Status) (after : Loading) → (S.incoming input.old).left ≡ Some bytes
-        → Due (map string_bytes words.now) bytes (L.loading loader.old) after due out → IsForeseen due (L.loading loader.old) after
-        → IsUnlessFailed due result (S.incoming input.old) (S.incoming input.new) (K.outgoing output.old) (K.outgoing output.new)
-        (L.loading loader.old) (L.loading loader.new) }
+        → Due (map string_bytes words.now) bytes (L.loading loader.old) after due out → IsUnloading due (L.loading loader.old) after
+        → IsUnlessFailed due result (S.incoming input.old) (S.incoming input.new) (K.outgoing output.old) (K.outgoing output.new) }
 {
     run(alloc, words, input, output, loader)
 }
