@@ -1,0 +1,13 @@
+pub mod Maps
+pub mod Singles
+pub mod Slots
+pub mod Sorting
+pub mod Told
+pub mod Stages
+pub mod Levels
+pub mod Cycle
+pub mod Keeping
+pub mod Needed
+pub mod Only
+pub mod Renaming
+pub mod Parts
