@@ -13,7 +13,7 @@ use Rattle.ld_tree.specs.declared.tree.Tree.{Tree, out-Tree}
 use Rattle.ld_tree.specs.declared.tree.Tree.TheOpen.{Tree-F}
 use Rattle.ld_rec.specs.Words.{text_in, text_of}
 use Rattle.ld_answer.specs.declared.op.Op.{Op}
-use Rattle.ld_answer.specs.declared.op.Op.TheVariants.{Expand, Flatten}
+use Rattle.ld_answer.specs.declared.op.Op.TheVariants.{Expand, Compact, Flatten}
 use Rattle.ld_answer.specs.declared.refusal.EnvelopeRefusal.{EnvelopeRefusal}
 use Rattle.ld_answer.specs.declared.refusal.EnvelopeRefusal.TheVariants as refusal
 use Rattle.ld_answer.specs.Envelopes.{entries_fault, first_name, has_required, is_base_in, is_of_wrong_kind, is_unknown, name_fault}
@@ -82,11 +82,16 @@ none_wrong op entries false unknown wrong h = cc
 pub no_wrong_kind : (op : Op) (entries : Sorted Tree) → entries_fault op entries ≡ None → first_name is_of_wrong_kind entries.0 ≡ None
 no_wrong_kind op entries h = none_wrong op entries (has_required op entries) (first_name (is_unknown op) entries.0) (first_name is_of_wrong_kind entries.0) h
 
+has_both : (a b : Option Tree) → (is_some a && is_some b) ≡ true → a ≡ None → ⊥
+has_both (Some x) b h k = cc
+has_both None b h k = cc
+
 has_one : (a : Option Tree) → is_some a ≡ true → a ≡ None → ⊥
 has_one (Some x) h k = cc
 has_one None h k = cc
 
 needs_document : (op : Op) (entries : Sorted Tree) → has_required op entries ≡ true → value_at entries (codes "document") ≡ None → ⊥
+needs_document Compact entries h k = has_both _ _ h k
 needs_document Expand entries h k = has_one _ h k
 needs_document Flatten entries h k = has_one _ h k
 
@@ -97,3 +102,20 @@ needed false fault h = cc
 -- and it has a document
 pub has_document : (op : Op) (entries : Sorted Tree) → entries_fault op entries ≡ None → value_at entries (codes "document") ≡ None → ⊥
 has_document op entries h k = needs_document op entries (needed (has_required op entries) (name_fault (first_name (is_unknown op) entries.0) (first_name is_of_wrong_kind entries.0)) h) k
+
+-- what stands under another name stays
+take_beside : (name other : List ℕ) (es : List (List ℕ × Tree)) → is_eq (name_cmp other name) ≡ false
+    → lookup (is_at (name_cmp other)) (remove_entry (is_at (name_cmp name)) es) ≡ lookup (is_at (name_cmp other)) es
+take_beside name other [] n = refl
+take_beside name other (e ∷ es) n = go (is_eq (name_cmp name e.0)) refl (take_beside name other es n)
+  where
+    apart : is_eq (name_cmp name e.0) ≡ true → is_eq (name_cmp other e.0) ≡ false
+    apart t = subst (λ x. is_eq (name_cmp other x) ≡ false) (same_name name e.0 t) n
+
+    go : (t : Bool) → is_eq (name_cmp name e.0) ≡ t → lookup (is_at (name_cmp other)) (remove_entry (is_at (name_cmp name)) es) ≡ lookup (is_at (name_cmp other)) es
+        → lookup (is_at (name_cmp other)) (cond t es (e ∷ remove_entry (is_at (name_cmp name)) es)) ≡ lookup (is_at (name_cmp other)) (e ∷ es)
+    go true t later = sym (ap (λ b. cond b (Some e.1) (lookup (is_at (name_cmp other)) es)) (apart t))
+    go false t later = ap (cond (is_eq (name_cmp other e.0)) (Some e.1)) later
+
+pub document_stays : (entries rest : Sorted Tree) → rest.0 ≡ remove_entry (is_at (name_cmp (codes "context"))) entries.0 → value_at rest (codes "document") ≡ value_at entries (codes "document")
+document_stays entries rest is = ap (lookup (is_at (name_cmp (codes "document")))) is ∙ take_beside (codes "context") (codes "document") entries.0 refl

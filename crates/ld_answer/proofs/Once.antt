@@ -1,5 +1,5 @@
 -- Bytes are one envelope at most, and not both an envelope and none.
-use Rattle.std.proofs.Common.{◌≡◌, ◌∙◌, ℕ, List, Option, Some, None, refl, sym, ap, ap₂, subst}
+use Rattle.std.proofs.Common.{◌≡◌, ◌∙◌, ℕ, List, Option, Some, None, refl, sym, ap, subst}
 use Rattle.std.specs.Prelude.{Result}
 use Rattle.ld_tree.specs.Reading.{reads}
 use Rattle.ld_tree.specs.Names.{Sorted}
@@ -12,9 +12,12 @@ use Rattle.ld_answer.specs.Answers.{answered, answered_of}
 use Rattle.ld_answer.specs.Envelopes.{IsAccepted, IsEnvelopeIn, IsEnvelopeOf, IsRefused, fault_of}
 use Rattle.ld_answer.specs.declared.envelope.Envelope.{Envelope}
 use Rattle.ld_answer.specs.declared.op.Op.{Op}
-use Rattle.ld_answer.specs.declared.op.Op.TheVariants.{Expand, Flatten}
+use Rattle.ld_answer.specs.declared.op.Op.TheVariants.{Expand, Compact, Flatten}
 use Rattle.ld_answer.specs.declared.refusal.EnvelopeRefusal.{EnvelopeRefusal}
 use Rattle.ld_answer.specs.declared.refusal.EnvelopeRefusal.TheVariants as refusal
+
+ap₄ : {A B C D E : Type 0} (f : A → B → C → D → E) {a a' : A} {b b' : B} {c c' : C} {d d' : D} → a ≡ a' → b ≡ b' → c ≡ c' → d ≡ d' → f a b c d ≡ f a' b' c' d'
+ap₄ f p q r s = λ i. f (p i) (q i) (r i) (s i)
 
 none_some : {A : Type 0} (a : A) → None ≡ Some a → ⊥
 none_some a e = cc
@@ -37,12 +40,12 @@ module _ (op : Op) (bytes : List ℕ) (envelope : Envelope) (accepted : IsAccept
 pub accepted_or_refused : (op : Op) (bytes : List ℕ) (envelope : Envelope) (e : EnvelopeRefusal) → IsAccepted op bytes envelope → IsRefused op bytes e → (e ≡ refusal.NoMemory → ⊥) → ⊥
 accepted_or_refused op bytes envelope e accepted refused = refused_for_memory op bytes envelope accepted e refused
 
-same_fields : (stock : Stock) (op : Op) (a b : Envelope) → a.document ≡ b.document → a.base ≡ b.base → answered stock op a ≡ answered stock op b
-same_fields stock op a b document base = ap₂ (answered_of stock op) document base
+same_fields : (stock : Stock) (op : Op) (a b : Envelope) → a.document ≡ b.document → a.context ≡ b.context → a.base ≡ b.base → a.arrays ≡ b.arrays → answered stock op a ≡ answered stock op b
+same_fields stock op a b document context base arrays = ap₄ (answered_of stock op) document context base arrays
 
 same_entries : (op : Op) (y : Tree-F Tree) (a b : Envelope) (stock : Stock) → IsEnvelopeIn op y a → IsEnvelopeIn op y b → answered stock op a ≡ answered stock op b
 same_entries op (Tree-F.Map entries) a b stock h k =
-    same_fields stock op a b (some_once a.document b.document (sym h.document ∙ k.document)) (h.base ∙ sym k.base)
+    same_fields stock op a b (some_once a.document b.document (sym h.document ∙ k.document)) (h.context ∙ sym k.context) (h.base ∙ sym k.base) (h.arrays ∙ sym k.arrays)
 same_entries op _ a b stock h k = absurd h
 
 -- two envelopes of the same bytes are answered alike

@@ -11,7 +11,7 @@ use Rattle.ld_tree_read.specs.declared.refusal.ReadRefusal.{ReadRefusal}
 use Rattle.ld_tree_read.specs.Refusals.{first_refusal}
 use Rattle.ld_rec.specs.Words.{is_among, has, text_of}
 use Rattle.ld_answer.specs.declared.op.Op.{Op}
-use Rattle.ld_answer.specs.declared.op.Op.TheVariants.{Expand, Flatten}
+use Rattle.ld_answer.specs.declared.op.Op.TheVariants.{Expand, Compact, Flatten}
 use Rattle.ld_answer.specs.declared.envelope.Envelope.{Envelope}
 use Rattle.ld_answer.specs.declared.refusal.EnvelopeRefusal.{EnvelopeRefusal}
 use Rattle.ld_answer.specs.declared.refusal.EnvelopeRefusal.TheVariants as refusal
@@ -20,13 +20,13 @@ use Rattle.ld_answer.specs.declared.refusal.EnvelopeRefusal.TheVariants as refus
 
 -- those that an envelope of the operation may have
 abbrev pub fields : Op → List (List ℕ)
-fields Expand = codes "base" ∷ codes "document" ∷ []
-fields Flatten = codes "base" ∷ codes "document" ∷ []
+fields Compact = codes "base" ∷ codes "compactArrays" ∷ codes "context" ∷ codes "document" ∷ []
+fields _ = codes "base" ∷ codes "document" ∷ []
 
 -- and those that it has to have
 abbrev pub has_required : Op → Sorted Tree → Bool
-has_required Expand entries = has entries (codes "document")
-has_required Flatten entries = has entries (codes "document")
+has_required Compact entries = has entries (codes "document") && has entries (codes "context")
+has_required _ entries = has entries (codes "document")
 
 -- null, or an IRI
 abbrev pub is_base_in : Tree-F Tree → Bool
@@ -34,16 +34,41 @@ is_base_in Tree-F.Null = true
 is_base_in (Tree-F.Text text) = is_iri text
 is_base_in _ = false
 
+abbrev pub is_bool_in : Tree-F Tree → Bool
+is_bool_in (Tree-F.Bool b) = true
+is_bool_in _ = false
+
 -- the field's value is of its kind
 abbrev pub is_of_kind : List ℕ × Tree → Bool
-is_of_kind e = if bytes_eq e.0 (codes "base") then is_base_in (out-Tree e.1) else true
+is_of_kind e =
+    if bytes_eq e.0 (codes "base") then is_base_in (out-Tree e.1)
+    else if bytes_eq e.0 (codes "compactArrays") then is_bool_in (out-Tree e.1)
+    else true
 
 -- ---- an envelope
 
--- what its fields say: no base is the same as null
+abbrev pub bool_in : Tree-F Tree → Option Bool
+bool_in (Tree-F.Bool b) = Some b
+bool_in _ = None
+
+abbrev pub bool_of : Tree → Option Bool
+bool_of tree = bool_in (out-Tree tree)
+
+-- the context to compact with is there for compaction alone
+abbrev pub context_for : Op → Sorted Tree → Option Tree
+context_for Compact entries = value_at entries (codes "context")
+context_for _ entries = None
+
+abbrev pub or_true : Option Bool → Bool
+or_true (Some b) = b
+or_true None = true
+
+-- what its fields say: no base is the same as null, and arrays are compacted unless it is said that they aren't
 pub record IsEnvelopeOf (op : Op) (entries : Sorted Tree) (envelope : Envelope) : Type 0 where
   pub document : value_at entries (codes "document") ≡ Some envelope.document
+  pub context : envelope.context ≡ context_for op entries
   pub base : envelope.base ≡ option_and_then text_of (value_at entries (codes "base"))
+  pub arrays : envelope.arrays ≡ or_true (option_and_then bool_of (value_at entries (codes "compactArrays")))
 
 -- ---- why there is none
 

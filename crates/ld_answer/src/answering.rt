@@ -1,9 +1,14 @@
-ghost use Rattle.std.specs.Prelude.{◌≡◌, Ok};
-ghost use Rattle.ld_answer.specs.Answers.{answered, formed, Tells};
+ghost use Rattle.std.specs.Prelude.{◌≡◌, option_copied};
+ghost use Rattle.ld_rec.specs.Iris.{or_else};
+ghost use Rattle.ld_rec.specs.Kinds.{null};
+ghost use Rattle.ld_compact.specs.Compaction.{compacted};
+ghost use Rattle.ld_answer.specs.Answers.{answered, formed, refused_by, Tells};
+ghost use Rattle.ld_nodes.specs.Flat.{flattened};
 
 use crate::answer::Answer;
 use crate::envelope::Envelope;
 use crate::op::Op;
+use ld_compact::compact;
 use ld_expand::expand;
 use ld_inverse::Inverses;
 use ld_nodes::flatten;
@@ -18,26 +23,56 @@ impl Envelope {
         ensures stock { W.stock work.new ≡ W.stock work.old }
         ensures keeps { (kept : W.Kept) → W.gave work.old kept → W.gave work.new kept }
     {
-        let base = match &self.base {
+        match expand(alloc, work, self.base(), &self.document) {
+            Ok(expanded) => self.form(alloc, op, work, expanded),
+            Err(stop) => Answer::refusal(stop),
+        }
+    }
+
+    fn base(&self) -> Option<&str>
+        ensures { option_copied result ≡ self.now.base }
+    {
+        match &self.base {
             Some(base) => Some(base.as_str()),
             None => None,
+        }
+    }
+
+    // The expanded document in the form of the operation.
+    fn form<W: Inverses>(&self, alloc: Global, op: Op, work: &mut W, expanded: Tree) -> Answer
+        ensures answer { Tells result (formed (W.stock work.old) op self.now.context self.now.base self.now.arrays expanded) }
+        ensures stock { W.stock work.new ≡ W.stock work.old }
+        ensures keeps { (kept : W.Kept) → W.gave work.old kept → W.gave work.new kept }
+    {
+        match op {
+            Op::Expand => Answer::Result(expanded),
+            Op::Compact => self.compacted(alloc, work, &expanded),
+            Op::Flatten => flattened_form(alloc, &expanded),
+        }
+    }
+
+    fn compacted<W: Inverses>(&self, alloc: Global, work: &mut W, expanded: &Tree) -> Answer
+        ensures answer { Tells result (compacted (W.stock work.old) expanded.now (or_else self.now.context null) self.now.base self.now.arrays).result }
+        ensures stock { W.stock work.new ≡ W.stock work.old }
+        ensures keeps { (kept : W.Kept) → W.gave work.old kept → W.gave work.new kept }
+    {
+        let nothing = Tree::Null;
+        let context = match &self.context {
+            Some(context) => context,
+            None => &nothing,
         };
-        match expand(alloc, work, base, &self.document) {
-            Ok(expanded) => form(alloc, op, expanded),
+        match compact(alloc, work, expanded, context, self.base(), self.arrays) {
+            Ok(compacted) => Answer::Result(compacted),
             Err(stop) => Answer::refusal(stop),
         }
     }
 }
 
-// The expanded document in the form of the operation.
-fn form(alloc: Global, op: Op, expanded: Tree) -> Answer
-    ensures { Tells result (formed op expanded) }
+fn flattened_form(alloc: Global, expanded: &Tree) -> Answer
+    ensures { Tells result (refused_by (flattened expanded.now)) }
 {
-    match op {
-        Op::Expand => Answer::Result(expanded),
-        Op::Flatten => match flatten(alloc, &expanded) {
-            Ok(flattened) => Answer::Result(flattened),
-            Err(stop) => Answer::refusal(stop),
-        },
+    match flatten(alloc, expanded) {
+        Ok(flattened) => Answer::Result(flattened),
+        Err(stop) => Answer::refusal(stop),
     }
 }

@@ -8,7 +8,11 @@ use ld_tree::{Iri, Tree};
 #[derive(Debug, Drop)]
 pub struct Envelope {
     pub document: Tree,
+    /// What to compact with; there for compaction alone.
+    pub context: Option<Tree>,
     /// The base IRI of the document.
     pub base: Option<Iri>,
+    /// Whether an array of one item is compacted to the item (JSON-LD 1.1 API, 9.3, `compactArrays`).
+    pub arrays: bool,
     pub ghost is_base: { ForSome base (λ text. is_iri text ≡ true) },
 }

@@ -2,7 +2,7 @@ ghost use Rattle.std.specs.Prelude.{◌≡◌, ℕ, List, Option, Some, None, tr
 ghost use Rattle.ld_tree.specs.Maps.{find as value_at};
 ghost use Rattle.ld_tree.specs.declared.tree.Tree.{Tree, out-Tree};
 ghost use Rattle.ld_rec.specs.Words.{text_of, is_among};
-ghost use Rattle.ld_answer.specs.Envelopes.{IsAccepted, IsRefused, IsUnread, IsEnvelopeOf, entries_fault, fields, first_name, has_required, is_of_wrong_kind, is_unknown, is_base_in, is_of_kind};
+ghost use Rattle.ld_answer.specs.Envelopes.{IsAccepted, IsRefused, IsUnread, IsEnvelopeOf, bool_of, context_for, entries_fault, fields, first_name, has_required, is_of_wrong_kind, is_unknown, is_base_in, is_of_kind, or_true};
 ghost use Rattle.ld_tree_read.specs.Steps.{Known};
 ghost use Rattle.ld_answer.specs.Readings.{IsFault};
 ghost use Rattle.ld_answer.specs.declared.op.Op.{Op};
@@ -16,7 +16,7 @@ use ld_tree_read::{ReadRefusal, read_tree};
 use std::alloc::Global;
 
 /// Reads an envelope: a JSON object with the fields `document` (required, any value) and `base` (an IRI, or null for
-/// none).
+/// none), and for compaction also `context` (required, any value) and `compactArrays` (a truth value; absent is true).
 ///
 /// Refused are bytes that are no JSON text (`Json`), a text that is no object or lacks a required field
 /// (`NotAnEnvelope`), the least name that is no field (`UnknownField`), and the least field whose value is of a wrong
@@ -80,6 +80,7 @@ fn has_required(op: Op, entries: &Entries<Tree>) -> bool
     ensures { result ≡ has_required op entries.now }
 {
     match op {
+        Op::Compact => entries.get("document").is_some() && entries.get("context").is_some(),
         Op::Expand | Op::Flatten => entries.get("document").is_some(),
     }
 }
@@ -88,6 +89,9 @@ fn is_field(op: Op, name: &str) -> bool
     ensures { result ≡ is_among (fields op) name.now }
 {
     match op {
+        Op::Compact => {
+            name == "base" || name == "compactArrays" || name == "context" || name == "document"
+        }
         Op::Expand | Op::Flatten => name == "base" || name == "document",
     }
 }
@@ -106,7 +110,13 @@ fn first_unknown(op: Op, entries: &[(Text, Tree)]) -> Option<&str>
 fn is_of_kind(name: &str, value: &Tree) -> bool
     ensures { result ≡ is_of_kind (name.now, value.now) }
 {
-    if name == "base" { is_base(value) } else { true }
+    if name == "base" {
+        is_base(value)
+    } else if name == "compactArrays" {
+        matches!(value, Tree::Bool(_))
+    } else {
+        true
+    }
 }
 
 fn is_base(value: &Tree) -> bool
@@ -136,10 +146,28 @@ fn taken_apart(alloc: Global, op: Op, entries: Entries<Tree>) -> Result<Envelope
     ensures { IfOk result (IsEnvelopeOf op entries) }
 {
     let base = base_of(alloc, &entries)?;
+    let arrays = arrays_of(&entries);
     let mut rest = entries;
+    let context = take_context(op, &mut rest);
     match rest.take_out("document") {
-        Some(document) => Ok(Envelope { document, base }),
+        Some(document) => Ok(Envelope {
+            document,
+            context,
+            base,
+            arrays,
+        }),
         None => unreachable!(),
+    }
+}
+
+// What to compact with, where the operation has it.
+fn take_context(op: Op, entries: &mut Entries<Tree>) -> Option<Tree>
+    ensures context { result ≡ context_for op entries.old }
+    ensures document { value_at entries.new (codes "document") ≡ value_at entries.old (codes "document") }
+{
+    match op {
+        Op::Compact => entries.take_out("context"),
+        Op::Expand | Op::Flatten => None,
     }
 }
 
@@ -149,5 +177,14 @@ fn base_of(alloc: Global, entries: &Entries<Tree>) -> Result<Option<Iri>, NoMemo
     match entries.get("base") {
         Some(Tree::Text(text)) => Ok(Some(text.try_copy(alloc)?)),
         _ => Ok(None),
+    }
+}
+
+fn arrays_of(entries: &Entries<Tree>) -> bool
+    ensures { result ≡ or_true (option_and_then bool_of (value_at entries.now (codes "compactArrays"))) }
+{
+    match entries.get("compactArrays") {
+        Some(Tree::Bool(arrays)) => *arrays,
+        _ => true,
     }
 }

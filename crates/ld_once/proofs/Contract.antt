@@ -9,19 +9,26 @@ use Rattle.ld_script.proofs.Scripts.{not_bad}
 use Rattle.ld_once.proofs.Replied.{replied_once}
 use Rattle.ld_once.specs.declared.command.Command.{Command}
 use Rattle.ld_once.specs.declared.command.Command.TheVariants.{Document, Schedule}
-use Rattle.ld_answer.specs.declared.op.Op.TheVariants.{Expand, Flatten}
+use Rattle.ld_answer.specs.declared.op.Op.TheVariants.{Expand, Compact, Flatten}
 use Rattle.ld_flight.specs.Loads.{Loading}
 use Rattle.ld_once.specs.Runs.{input_limit, IsForm, IsFormOf, IsPrinted, IsReply, word_of, Due, Reads, IsReadToEnd, IsReadFor, IsUnloading, IsUnlessFailed, Ended, written, write_failed, read_failed, no_memory}
 
 -- each command has a word of its own
 same_word : (a b : Command) → word_of a ≡ word_of b → a ≡ b
 same_word (Document Expand) (Document Expand) e = refl
+same_word (Document Expand) (Document Compact) e = cc
 same_word (Document Expand) (Document Flatten) e = cc
 same_word (Document Expand) Schedule e = cc
+same_word (Document Compact) (Document Expand) e = cc
+same_word (Document Compact) (Document Compact) e = refl
+same_word (Document Compact) (Document Flatten) e = cc
+same_word (Document Compact) Schedule e = cc
 same_word (Document Flatten) (Document Expand) e = cc
+same_word (Document Flatten) (Document Compact) e = cc
 same_word (Document Flatten) (Document Flatten) e = refl
 same_word (Document Flatten) Schedule e = cc
 same_word Schedule (Document Expand) e = cc
+same_word Schedule (Document Compact) e = cc
 same_word Schedule (Document Flatten) e = cc
 same_word Schedule Schedule e = refl
 
@@ -79,7 +86,7 @@ module _ (words : List (List ℕ)) (bytes out out' : List ℕ) (loader after loa
   once s t other (answer_way status h) (long_way form long) = absurd (grind (arith, long, h.2))
   once s t other (answer_way status h) (answer_way status' k) =
       reply_once h.0 bytes loader after loader' status status' out out' h.3 unloaded other
-          (subst (λ c. IsReply c bytes loader loader' status' out') (same_command words k.0 h.0 k.1 h.1) k.3)
+      (subst (λ c. IsReply c bytes loader loader' status' out') (same_command words k.0 h.0 k.1 h.1) k.3)
 
   -- where nothing is loaded, one status is due for one input
   pub Due-once : (s t : Status) → (s ≡ LoadFault → ⊥) → Due words bytes loader after s out → Due words bytes loader loader' t out' → t ≡ s

@@ -85,7 +85,7 @@ module _ (answering answering' : Answering) (loader after loader' : Loading) (s 
       let zero = none_given loader.given h.given after.given h.loads.gained unloaded in
       let no_documents = nothing_loaded loader.held answering h.given h.documents h.loads.are_loads zero in
       let at_once : IsSettled (answering (stock_of [])) s out
-          = subst (λ ds. IsSettled (answering (stock_of ds)) s out) no_documents (settled_at_once loader after (length h.given) (answering (stock_of h.documents)) s out h.answer zero other) in
+      = subst (λ ds. IsSettled (answering (stock_of ds)) s out) no_documents (settled_at_once loader after (length h.given) (answering (stock_of h.documents)) s out h.answer zero other) in
       elim (first_lacked loader.held answering' k.given k.documents k.loads.are_loads) [
         | inl is ↦ answered_once_more loader loader' (length k.given) (answering (stock_of [])) s t out out' at_once
             (subst (λ r. IsAnswer loader loader' (length k.given) r t out') (ap (λ ds. answering' (stock_of ds)) is ∙ same) k.answer)
@@ -105,4 +105,4 @@ replied_once op bytes loader after loader' s t out out' (inl h) unloaded other (
 replied_once op bytes loader after loader' s t out out' (inr h) unloaded other (inl k) = absurd (not_both op bytes loader after loader' s t out out' h k)
 replied_once op bytes loader after loader' s t out out' (inr h) unloaded other (inr k) =
     reached_once (answering op h.envelope) (answering op k.envelope) loader after loader' s t out out' (answered_once op bytes (stock_of []) k.envelope h.envelope k.accepted h.accepted)
-        h.reached unloaded other k.reached
+    h.reached unloaded other k.reached

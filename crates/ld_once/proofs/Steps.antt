@@ -111,8 +111,8 @@ module _ (answering : Answering) (start : Loading) where
       loads = record { gained = fault.given ∙ under.gained; are_loads = under.are_loads };
       answer = subst (λ s. IsAnswer start after (length under.given) (answering (stock_of documents)) s out) (sym fault.status_is)
           (subst (λ o. IsAnswer start after (length under.given) (answering (stock_of documents)) statuses.LoadFault o)
-              (ap₂ (λ n b. body_line (load_fault_body pass.iri n b after.faults)) (sym counted) (sym under.faults) ∙ sym fault.out_is)
-              (load_fault pass.iri lacks few_given (subst (λ n. Rose n after.faults) under.faults fault.rose)));
+          (ap₂ (λ n b. body_line (load_fault_body pass.iri n b after.faults)) (sym counted) (sym under.faults) ∙ sym fault.out_is)
+          (load_fault pass.iri lacks few_given (subst (λ n. Rose n after.faults) under.faults fault.rose)));
     }
 
     -- memory was wanting
@@ -153,7 +153,7 @@ module _ (answering : Answering) (start : Loading) where
       loads = record { gained = under.gained; are_loads = under.are_loads };
       answer = subst (λ s. IsAnswer start now (length under.given) (answering (stock_of documents)) s out) (sym status_is)
           (subst (λ o. IsAnswer start now (length under.given) (answering (stock_of documents)) statuses.TooMany o) (sym out_is)
-              (too_many iri lacks (under.as_many ∙ many) under.faults));
+          (too_many iri lacks (under.as_many ∙ many) under.faults));
     }
 
 -- ---- the request's own steps
@@ -170,7 +170,7 @@ module _ (answering : Answering) (before after : Loading) (documents documents' 
       → IsUnderway answering start before (shared_entries documents) → IsUnderway answering start after (shared_entries documents')
   next_underway start absent join under =
       subst (λ ds. IsUnderway answering start after ds) (sym join.1)
-          (one_more answering start before after (shared_entries documents) under pass lacks few_shared number_shared absent join.0 join.2)
+      (one_more answering start before after (shared_entries documents) under pass lacks few_shared number_shared absent join.0 join.2)
 
   pub next_faulted : (start : Loading) (status : Status) (out : List ℕ) → IsFaultReply pass before after status out → IsUnderway answering start before (shared_entries documents)
       → IsReached answering start after status out

@@ -9,7 +9,7 @@ use Rattle.ld_answer.specs.Bodies.{refusal_body}
 use Rattle.ld_answer.specs.Envelopes.{IsAccepted, IsRefused}
 use Rattle.ld_answer.specs.declared.envelope.Envelope.{Envelope}
 use Rattle.ld_answer.specs.declared.op.Op.{Op}
-use Rattle.ld_answer.specs.declared.op.Op.TheVariants.{Expand, Flatten}
+use Rattle.ld_answer.specs.declared.op.Op.TheVariants.{Expand, Compact, Flatten}
 use Rattle.ld_answer.specs.declared.refusal.EnvelopeRefusal.{EnvelopeRefusal}
 use Rattle.ld_flight.specs.Loads.{Loading}
 use Rattle.ld_script.specs.Scripts.{IsBadAt}
@@ -26,6 +26,7 @@ input_limit = 4194304
 -- the word of each command
 abbrev pub word_of : Command → List ℕ
 word_of (Document Expand) = codes "expand"
+word_of (Document Compact) = codes "compact"
 word_of (Document Flatten) = codes "flatten"
 word_of Schedule = codes "schedule"
 

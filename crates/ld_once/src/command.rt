@@ -28,6 +28,8 @@ impl Command {
     {
         if word == "expand" {
             Some(Command::Document(Op::Expand))
+        } else if word == "compact" {
+            Some(Command::Document(Op::Compact))
         } else if word == "flatten" {
             Some(Command::Document(Op::Flatten))
         } else if word == "schedule" {

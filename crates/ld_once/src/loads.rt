@@ -176,3 +176,58 @@ fn contexts_may_be_too_many(rt: HostRuntime) -> Result<(), Fail> {
     );
     Ok(())
 }
+
+#[test]
+fn documents_are_compacted(rt: HostRuntime) -> Result<(), Fail> {
+    let alloc = rt.alloc();
+    let texts = [("http://c/as", PERSON)];
+    let rows = [
+        (
+            r#"{"document":[{"@id":"http://a.example/1","http://xmlns.com/foaf/0.1/name":[{"@value":"Ann"}]}],"context":{"name":"http://xmlns.com/foaf/0.1/name"}}"#,
+            Status::Done,
+            r#"{"@context":{"name":"http://xmlns.com/foaf/0.1/name"},"@id":"http://a.example/1","name":"Ann"}"#,
+        ),
+        (
+            r#"{"document":[{"http://e/p":[{"@value":"x"}]}],"context":{"aa":"http://e/p","b":"http://e/p"}}"#,
+            Status::Done,
+            r#"{"@context":{"aa":"http://e/p","b":"http://e/p"},"b":"x"}"#,
+        ),
+        (
+            r#"{"document":[{"@id":"http://e/d/x","http://e/p":[{"@id":"http://e/d/doc#f"}]}],"context":{},"base":"http://e/d/doc"}"#,
+            Status::Done,
+            r##"{"@id":"x","http://e/p":{"@id":"#f"}}"##,
+        ),
+        (
+            r#"{"document":[{"http://e/p":[{"@value":"x"}]}],"context":{},"compactArrays":false}"#,
+            Status::Done,
+            r#"{"@graph":[{"http://e/p":["x"]}]}"#,
+        ),
+        (
+            r#"{"document":{"@context":"http://c/as","id":"http://e/ann","type":"Person","nameMap":{"en":"Ann","de":"Anne"},"knows":[{"id":"http://e/bob","type":"Person","name":"Bob"},"http://e/cy"],"made":{"Note":{"id":"http://e/n1","name":"Hi"}}},"context":"http://c/as"}"#,
+            Status::Done,
+            r#"{"@context":"http://c/as","id":"http://e/ann","knows":[{"id":"http://e/bob","name":"Bob","type":"Person"},"http://e/cy"],"made":{"Note":{"id":"http://e/n1","name":"Hi"}},"nameMap":{"de":"Anne","en":"Ann"},"type":"Person"}"#,
+        ),
+        (
+            r#"{"document":{}}"#,
+            Status::Refused,
+            r#"{"own":"not an envelope"}"#,
+        ),
+        (
+            r#"{"document":{},"context":{},"compactArrays":null}"#,
+            Status::Refused,
+            r#"{"field":"compactArrays","own":"wrong kind"}"#,
+        ),
+        (
+            r#"{"document":{},"context":{"@context":{"a":"b:x","b":"a:y"}}}"#,
+            Status::Refused,
+            r#"{"code":"cyclic IRI mapping"}"#,
+        ),
+    ];
+    for (input, status, output) in rows {
+        let line = format!(in alloc; "{output}\n")?;
+        let seen = run(alloc, "compact", input, &texts, &[])?;
+        assert_eq!(rt; seen.0, status, "{input}");
+        assert_eq!(rt; seen.1.bytes(), line.as_bytes(), "{input}");
+    }
+    Ok(())
+}

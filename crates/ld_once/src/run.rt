@@ -19,7 +19,7 @@ const INPUT_TOO_LONG: &[u8] = b"{\"own\":\"input too long\"}\n";
 
 /// Runs what the words ask for: reads the input, and writes one answer.
 ///
-/// The words are `expand`, `flatten` or `schedule`, alone. The input is one envelope or one script, read to its end, of
+/// The words are `expand`, `compact`, `flatten` or `schedule`, alone. The input is one envelope or one script, read to its end, of
 /// at most 4,194,304 bytes. A context that an envelope's document names and that isn't there is loaded, and the document
 /// answered anew, with at most 64 contexts.
 pub fn run_once<S: Source, K: Sink, L: Loader>(

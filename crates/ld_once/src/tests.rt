@@ -185,7 +185,7 @@ fn words_and_lengths_have_limits(rt: HostRuntime) -> Result<(), Fail> {
         &[],
         &["expand", "x"],
         &["Expand"],
-        &["compact"],
+        &["soak"],
         &["schedule", "expand"],
     ];
     for form in forms {

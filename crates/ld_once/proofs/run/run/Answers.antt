@@ -20,7 +20,7 @@ returns-in-Ok g c =
     let due = subst (λ (o : List ℕ). IsReply c.in-Some.command bytes before after status o) (sym c.as_slice-in-Ok.ensures.value) replied in
     let is = reply_is c.in-Some.command bytes before after status out due in
     finished _ _ _ _ _ before after status c.finish-in-Ok.result bytes out (Due-reply c.in-Some.command _ bytes out before after status is c.in-Some.ensures whole.0 due)
-        (IsReadFor-reply status _ _ bytes is whole.1 whole.2) c.finish-in-Ok.ensures
+    (IsReadFor-reply status _ _ bytes is whole.1 whole.2) c.finish-in-Ok.ensures
 
 pub returns-in-Ok-Whole : goal.returns-in-Ok-Whole
 returns-in-Ok-Whole g c =
