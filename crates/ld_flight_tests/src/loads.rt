@@ -111,10 +111,13 @@ const ABC: [u8; 32] = [
 fn a_text_is_made_ready(rt: HostRuntime) -> Result<(), Fail> {
     let alloc = rt.alloc();
     let mut tower = Tower::new();
+    let iri = Text::from_str(alloc, "http://c/x")?;
+    let url = Text::from_str(alloc, "http://p/x")?;
+    let text = Raw::from_vec(b"abc".to_vec(alloc)?);
     let loaded = Loaded {
-        pass: tower.lead(Text::from_str(alloc, "http://c/x")?),
-        url: Text::from_str(alloc, "http://p/x")?,
-        text: Raw::from_vec(b"abc".to_vec(alloc)?),
+        pass: tower.lead(iri),
+        url,
+        text,
     };
     match loaded.ready(alloc) {
         Ok(ready) => {
