@@ -13,6 +13,14 @@ use Rattle.ld_answer.specs.declared.op.Op.TheVariants.{Expand, Compact, Flatten}
 use Rattle.ld_flight.specs.Loads.{Loading}
 use Rattle.ld_once.specs.Runs.{input_limit, IsForm, IsFormOf, IsPrinted, IsReply, word_of, Due, Reads, IsReadToEnd, IsReadFor, IsUnloading, IsUnlessFailed, Ended, written, write_failed, read_failed, no_memory}
 
+abbrev first_of : List ℕ → ℕ
+first_of [] = 0
+first_of (byte ∷ bytes) = byte
+
+-- words that begin otherwise are others
+unlike : (a b : List ℕ) → (first_of a ≡ first_of b → ⊥) → a ≡ b → ⊥
+unlike a b other e = other (ap first_of e)
+
 -- each command has a word of its own
 same_word : (a b : Command) → word_of a ≡ word_of b → a ≡ b
 same_word (Document Expand) (Document Expand) e = refl
@@ -21,10 +29,10 @@ same_word (Document Expand) (Document Flatten) e = cc
 same_word (Document Expand) Schedule e = cc
 same_word (Document Compact) (Document Expand) e = cc
 same_word (Document Compact) (Document Compact) e = refl
-same_word (Document Compact) (Document Flatten) e = cc
+same_word (Document Compact) (Document Flatten) e = absurd (unlike (codes "compact") (codes "flatten") (λ first. grind (arith, first)) e)
 same_word (Document Compact) Schedule e = cc
 same_word (Document Flatten) (Document Expand) e = cc
-same_word (Document Flatten) (Document Compact) e = cc
+same_word (Document Flatten) (Document Compact) e = absurd (unlike (codes "flatten") (codes "compact") (λ first. grind (arith, first)) e)
 same_word (Document Flatten) (Document Flatten) e = refl
 same_word (Document Flatten) Schedule e = cc
 same_word Schedule (Document Expand) e = cc
