@@ -66,6 +66,7 @@ fn answers_come_in_turn_and_the_last_stays(rt: HostRuntime) -> Result<(), Fail> 
     let mut loader = MemLoader::new(alloc, answers(alloc, &texts)?, Vec::new(alloc));
     let mut tower = Tower::new();
     for (iri, url, text) in calls {
+        assert!(rt; tower.made() < 9);
         let pass = tower.lead(Text::from_str(alloc, iri)?);
         let Ok(answer) = seen(&rt, loader.load(alloc, pass)) else {
             rt.panic("a fault");
@@ -90,6 +91,7 @@ fn planned_and_unknown_loads_fail(rt: HostRuntime) -> Result<(), Fail> {
         ("http://c/x", Ok(())),
     ];
     for (iri, want) in calls {
+        assert!(rt; tower.made() < 9);
         let pass = tower.lead(Text::from_str(alloc, iri)?);
         let got = match seen(&rt, loader.load(alloc, pass)) {
             Ok(_) => Ok(()),
