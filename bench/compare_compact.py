@@ -4,9 +4,10 @@ Run by hand, at the top of the repository, where PyLD is installed:
 
     python3 bench/compare_compact.py [first seed] [how many]
 
-Both compact what the program expands of a drawn document, with the context of another drawn document or with its own,
-so that differences of expansion count little. docs/differences.md lists what is known. Beside that, the program expands
-what it compacted with the document's own context, and the two expansions are compared.
+Both compact what the program expands of a drawn document, expanded once more, with the context of another drawn document
+or with its own, so that differences of expansion count little. What docs/differences.md lists of contexts that say
+nothing, of contexts in an array of one, and of empty types is told apart. Beside that, the program expands what it
+compacted, and the two expansions are compared.
 """
 
 import collections
@@ -50,6 +51,20 @@ def context_of(document):
     return document.get("@context", {}) if isinstance(document, dict) else {}
 
 
+def settled(tree):
+    """The tree without empty types."""
+    if isinstance(tree, list):
+        return [settled(item) for item in tree]
+    if not isinstance(tree, dict):
+        return tree
+    return {name: settled(value) for name, value in tree.items() if value != [] or name not in ("@type", "type")}
+
+
+def without_context(tree):
+    """The settled tree without its context."""
+    return {name: value for name, value in settled(tree).items() if name != "@context"}
+
+
 def kind_of(ours, is_result, theirs):
     """The same, or how the two differ."""
     if theirs[0] == "gave up":
@@ -62,7 +77,9 @@ def kind_of(ours, is_result, theirs):
         return "the same code" if theirs[1] == ours["code"] else "another code"
     if theirs[0] == "code":
         return "a result beside a code"
-    return "the same" if ours == theirs[1] else "another result"
+    if ours == theirs[1]:
+        return "the same"
+    return "the same but for own choices" if without_context(ours) == without_context(theirs[1]) else "another result"
 
 
 def main():
@@ -81,6 +98,8 @@ def main():
         if not is_result:
             seen["not expanded"] += 1
             continue
+        # What stands right in a graph as a value is dropped when it is expanded again.
+        expanded, _ = run(program, "expand", {"document": expanded})
         ours, is_result = run(program, "compact", {"document": expanded, "context": context})
         peer.stdin.write(json.dumps([expanded, context]) + "\n")
         peer.stdin.flush()

@@ -40,4 +40,4 @@ missing_after stock o (Err stop) then iri is e later = missing_compacted stock o
 pub missing_not_there : (stock : Stock) (op : Op) (envelope : Envelope) (iri : List ℕ) → answered stock op envelope ≡ Err (stop.Missing iri) → find stock iri ≡ None
 missing_not_there stock op envelope iri lacks =
     missing_after stock (expansion envelope.base envelope.document) (expanded stock envelope.base envelope.document).result (formed stock op envelope.context envelope.base envelope.arrays) iri refl lacks
-        (λ tree e. missing_formed stock op envelope.context envelope.base envelope.arrays tree iri e)
+    (λ tree e. missing_formed stock op envelope.context envelope.base envelope.arrays tree iri e)

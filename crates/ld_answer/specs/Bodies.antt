@@ -63,4 +63,4 @@ too_many_body iri = own_about_body (codes "iri") (text_tree iri) (codes "too man
 abbrev pub load_fault_body : (iri : List ℕ) → (flight before after : ℕ) → Tree
 load_fault_body iri flight before after =
     map_of (put (put (put (put (put empty (codes "after") (number_tree after)) (codes "before") (number_tree before)) (codes "flight") (number_tree flight)) (codes "iri") (text_tree iri))
-        (codes "own") (text_tree (codes "load fault")))
+    (codes "own") (text_tree (codes "load fault")))

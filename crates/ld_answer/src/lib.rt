@@ -19,7 +19,8 @@ mod refusal;
 
 pub use answer::Answer;
 pub use body::{
-    code_body, load_fault_body, own_about_body, own_body, own_text_body, refusal_body, too_many_body,
+    code_body, load_fault_body, own_about_body, own_body, own_text_body, refusal_body,
+    too_many_body,
 };
 pub use envelope::Envelope;
 pub use op::Op;

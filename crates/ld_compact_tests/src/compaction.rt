@@ -76,8 +76,10 @@ fn a_loaded_context_is_used_and_named(rt: HostRuntime) {
         "http://c/as",
         r##"{"@context":{"@vocab":"_:","a":"http://a/ns#","f":"http://f/","id":"@id","type":"@type","Person":"a:Person","Note":"a:Note","name":{"@id":"a:name"},"nameMap":{"@id":"a:name","@container":"@language"},"knows":{"@id":"f:knows","@type":"@id"},"made":{"@id":"f:made","@container":"@type"}}}"##,
     )];
-    let expanded = r##"[{"@id":"http://e/ann","@type":["http://a/ns#Person"],"http://a/ns#name":[{"@language":"de","@value":"Anne"},{"@language":"en","@value":"Ann"}],"http://f/knows":[{"@id":"http://e/bob","@type":["http://a/ns#Person"],"http://a/ns#name":[{"@value":"Bob"}]},{"@id":"http://e/cy"}],"http://f/made":[{"@id":"http://e/n1","@type":["http://a/ns#Note"],"http://a/ns#name":[{"@value":"Hi"}]}]}]"##;
-    let want = r#"{"@context":"http://c/as","id":"http://e/ann","knows":[{"id":"http://e/bob","name":"Bob","type":"Person"},"http://e/cy"],"made":{"Note":{"id":"http://e/n1","name":"Hi"}},"nameMap":{"de":"Anne","en":"Ann"},"type":"Person"}"#;
+    let expanded =
+        r##"[{"@id":"http://e/ann","@type":["http://a/ns#Person"],"http://a/ns#name":[{"@language":"de","@value":"Anne"},{"@language":"en","@value":"Ann"}],"http://f/knows":[{"@id":"http://e/bob","@type":["http://a/ns#Person"],"http://a/ns#name":[{"@value":"Bob"}]},{"@id":"http://e/cy"}],"http://f/made":[{"@id":"http://e/n1","@type":["http://a/ns#Note"],"http://a/ns#name":[{"@value":"Hi"}]}]}]"##;
+    let want =
+        r#"{"@context":"http://c/as","id":"http://e/ann","knows":[{"id":"http://e/bob","name":"Bob","type":"Person"},"http://e/cy"],"made":{"Note":{"id":"http://e/n1","name":"Hi"}},"nameMap":{"de":"Anne","en":"Ann"},"type":"Person"}"#;
     match answer(&rt, alloc, &texts, None, true, expanded, "\"http://c/as\"") {
         Ok(got) => assert!(rt; got.is_same(&read(&rt, alloc, want))),
         Err(_) => rt.panic("refused"),

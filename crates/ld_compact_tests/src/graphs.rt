@@ -34,7 +34,8 @@ fn graph_objects_in_their_containers(rt: HostRuntime) {
 
 #[test]
 fn scoped_contexts_go_and_come_back(rt: HostRuntime) {
-    let context = r#"{"@vocab":"http://e/","T":{"@context":{"s":"http://s/p"}},"p":{"@context":{"q":"http://s/q"}}}"#;
+    let context =
+        r#"{"@vocab":"http://e/","T":{"@context":{"s":"http://s/p"}},"p":{"@context":{"q":"http://s/q"}}}"#;
     let rows = [
         (
             r#"[{"@type":["http://e/T"],"http://s/p":[{"http://s/p":[{"@value":"x"}]}]}]"#,

@@ -58,13 +58,7 @@ pub fn answer(
 pub type Row = (&'static str, &'static str, &'static str);
 
 /// That the expanded document compacts to the text.
-pub fn compacts(
-    rt: &impl Abort,
-    alloc: Global,
-    base: Option<&str>,
-    arrays: bool,
-    row: &Row,
-) {
+pub fn compacts(rt: &impl Abort, alloc: Global, base: Option<&str>, arrays: bool, row: &Row) {
     let (expanded, context, want) = row;
     let want = read(rt, alloc, want);
     match answer(rt, alloc, &[], base, arrays, expanded, context) {
