@@ -95,7 +95,7 @@ def main():
                 before = own
             words = kind.__doc__.splitlines()[0].rstrip(".")
             pyld = spread(times_as_long, "{:.1f}") + " times as long" if peer else "not installed"
-            rows.append(f"| {words[0].lower() + words[1:]} | {spread(rates, '{:.0f}')} | {pyld} |")
+            rows.append(f"| {words[0].lower() + words[1:]} | {spread(rates, '{:.1f}')} | {pyld} |")
     print("\n| document | MB a second | PyLD takes |")
     print("|---|---|---|")
     print("\n".join(rows))
