@@ -1,4 +1,4 @@
-ghost use Rattle.std.specs.Prelude.{All};
+ghost use Rattle.std.specs.Prelude.{All, IfOk};
 ghost use Rattle.ld_flight.specs.Memory.{IsShort};
 
 use crate::run::run_once;
