@@ -12,9 +12,12 @@ pub mod Inward
 pub mod LeastPlaces
 pub mod Marks
 pub mod Numbers
+pub mod Outward
 pub mod Parts
 pub mod Powers
 pub mod Room
+pub mod Printed
+pub mod Ruled
 pub mod Scaled
 pub mod Scan
 pub mod Scans

@@ -1,5 +1,8 @@
 ghost use Rattle.std.specs.Prelude.{◌≡◌, ◌≤◌, ◌++◌, ℕ, List, [], Some, None, true};
+ghost use Rattle.ld_tree.specs.Bounds.{fits, spelled};
+ghost use Rattle.ld_tree.specs.CompactText.{text};
 ghost use Rattle.ld_tree.specs.Reading.{reads};
+ghost use Rattle.ld_tree.specs.Trees.{depth_of};
 ghost use Rattle.ld_tree.specs.declared.tree.Tree.{Tree};
 ghost use Rattle.ld_tree_read.specs.Begun.{begun, is_text, Refuses, place, is_stop, IsLongest};
 ghost use Rattle.ld_tree_read.specs.Grammar.{IsText};
@@ -17,9 +20,9 @@ pub fn text_begun()
     ensures { (bytes : List ℕ) → is_text bytes ≡ true → begun bytes ≡ true }
 {}
 
-/// Each beginning of a text goes on to one.
+/// Each beginning of a text goes on to a text of the grammar.
 pub fn begun_text()
-    ensures { (bytes : List ℕ) → begun bytes ≡ true → (more : List ℕ) × (is_text (bytes ++ more) ≡ true) }
+    ensures { (bytes : List ℕ) → begun bytes ≡ true → (more : List ℕ) × IsText (bytes ++ more) }
 {}
 
 /// The first refusal stands in the bytes, and none stands before it; where there is none, none stands.
@@ -40,9 +43,20 @@ pub fn grammar_text()
     ensures { (bytes : List ℕ) → IsText bytes → is_text bytes ≡ true }
 {}
 
+/// Bytes that are a text by the places that they lead to are one of the grammar.
+pub fn ruled_text()
+    ensures { (bytes : List ℕ) → is_text bytes ≡ true → IsText bytes }
+{}
+
 /// Bytes in which nothing is refused are a text.
 pub fn unrefused_text()
     ensures { (bytes : List ℕ) → first_refusal bytes ≡ None → is_text bytes ≡ true }
+{}
+
+/// The compact text of a tree reads as that tree, where it has at most 128 levels, its numbers have 64 bits and its
+/// texts and names are UTF-8.
+pub fn printed_reads()
+    ensures { (t : Tree) → depth_of t ≤ 128 → fits t ≡ true → spelled t ≡ true → reads (text t) t }
 {}
 
 /// Bytes that read as a tree have no refusal.

@@ -25,8 +25,8 @@ mod space;
 mod string;
 
 pub use laws::{
-    begun_text, grammar_text, least, longest, prefix_begun, reads_unrefused, text_begun,
-    unrefused_text,
+    begun_text, grammar_text, least, longest, prefix_begun, printed_reads, reads_unrefused,
+    ruled_text, text_begun, unrefused_text,
 };
 pub use parse::read_tree;
 pub use refusal::ReadRefusal;

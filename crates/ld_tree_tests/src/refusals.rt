@@ -112,21 +112,77 @@ fn depth(rt: HostRuntime) -> Result<(), Fail> {
     Ok(())
 }
 
+const WHOLE: &[u8] =
+    b" {\"a\" : [null,true,false,-10,5.0e1, \"\\u00e9\\ud83d\\ude00\\\"\xC3\xA9\"],\n\"b\":{}}";
+
 /// Each prefix of a text with everything in it is refused at its own length.
 #[test]
 fn prefixes(rt: HostRuntime) -> Result<(), Fail> {
     let alloc = rt.alloc();
-    let whole =
-        b" {\"a\" : [null,true,false,-10,5.0e1, \"\\u00e9\\ud83d\\ude00\\\"\xC3\xA9\"],\n\"b\":{}}";
     let cut = 58;
-    for at in 0..whole.len() {
+    for at in 0..WHOLE.len() {
         let expected = if at == cut {
             ReadRefusal::NotUtf8 { at }
         } else {
             ReadRefusal::Syntax { at }
         };
-        refused(&rt, alloc, &whole[..at], expected);
+        refused(&rt, alloc, &WHOLE[..at], expected);
     }
-    assert!(rt; read_tree(alloc, whole).is_ok());
+    assert!(rt; read_tree(alloc, WHOLE).is_ok());
+    Ok(())
+}
+
+// The text with another byte at this place.
+fn with_byte(alloc: Global, at: usize, byte: u8) -> Result<Vec<u8>, Fail> {
+    let mut text = Vec::new(alloc);
+    text.extend_from_slice(&WHOLE[..at])?;
+    text.push(byte)?;
+    text.extend_from_slice(&WHOLE[at + 1..])?;
+    Ok(text)
+}
+
+// Where the byte at this place may be another one, or only a later byte is then refused.
+const OTHERS: [(usize, u8, Option<ReadRefusal>); 16] = [
+    (58, 0x00, Some(ReadRefusal::NotUtf8 { at: 58 })),
+    (58, 0x80, None),
+    (2, b'}', Some(ReadRefusal::Syntax { at: 3 })),
+    (3, b'}', None),
+    (4, b'}', Some(ReadRefusal::Syntax { at: 37 })),
+    (37, b'}', None),
+    (43, b'}', Some(ReadRefusal::Syntax { at: 52 })),
+    (55, b'}', Some(ReadRefusal::Syntax { at: 57 })),
+    (57, b'}', Some(ReadRefusal::NotUtf8 { at: 58 })),
+    (58, b'}', Some(ReadRefusal::NotUtf8 { at: 58 })),
+    (59, b'}', Some(ReadRefusal::Syntax { at: 62 })),
+    (61, b'}', Some(ReadRefusal::Syntax { at: 63 })),
+    (64, b'}', None),
+    (65, b'}', Some(ReadRefusal::Syntax { at: 70 })),
+    (68, b'}', None),
+    (69, b'}', None),
+];
+
+fn expected_with(at: usize, byte: u8) -> Option<ReadRefusal> {
+    for (place, other, refusal) in OTHERS {
+        if place == at && other == byte {
+            return refusal;
+        }
+    }
+    Some(match byte {
+        0x80 | 0xFF => ReadRefusal::NotUtf8 { at },
+        _ => ReadRefusal::Syntax { at },
+    })
+}
+
+/// Each byte of that text is replaced: a byte that may not stand there is refused at its own place.
+#[test]
+fn replaced_bytes(rt: HostRuntime) -> Result<(), Fail> {
+    let alloc = rt.alloc();
+    for at in 0..WHOLE.len() {
+        for byte in [0x00, 0x80, 0xFF, b'}'] {
+            let text = with_byte(alloc, at, byte)?;
+            let answer = read_tree(alloc, text.as_slice()).err();
+            assert_eq!(rt; answer, expected_with(at, byte), "{at} {byte}");
+        }
+    }
     Ok(())
 }
