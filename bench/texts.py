@@ -7,6 +7,7 @@ prints its compact text, which has to be the one that Python prints of the tree 
 Python reads again as the tree. Every tenth text has one byte changed: there both refuse, or both read the same tree.
 """
 
+import decimal
 import json
 import pathlib
 import random
@@ -58,8 +59,8 @@ def spoilt(draw, bytes_):
 
 def profile(value):
     """Whether the numbers are ones that are read here: whole ones of 64 bits, and 1.1."""
-    if isinstance(value, float):
-        return value == 1.1 or (value == int(value) and -(2**63) <= int(value) < 2**63) if abs(value) < 1e300 else False
+    if isinstance(value, decimal.Decimal):
+        return value == decimal.Decimal("1.1") or (value == value.to_integral_value() and -(2**63) <= value < 2**63)
     if isinstance(value, int) and not isinstance(value, bool):
         return -(2**63) <= value < 2**63
     if isinstance(value, list):
@@ -70,9 +71,9 @@ def profile(value):
 
 
 def whole(value):
-    """Whole numbers that Python reads as floats, as the whole numbers that they are."""
-    if isinstance(value, float) and value != 1.1:
-        return int(value)
+    """Whole numbers that are written as fractions, as the whole numbers that they are."""
+    if isinstance(value, decimal.Decimal):
+        return 1.1 if value == decimal.Decimal("1.1") else int(value)
     if isinstance(value, list):
         return [whole(item) for item in value]
     if isinstance(value, dict):
@@ -98,7 +99,7 @@ def no_constant(name):
 def expected(bytes_):
     """What Python makes of it, as far as both read the same language."""
     try:
-        value = json.loads(bytes_.decode("utf-8"), parse_constant=no_constant)
+        value = json.loads(bytes_.decode("utf-8"), parse_float=decimal.Decimal, parse_constant=no_constant)
     except (ValueError, RecursionError):
         return b"refused"
     if not profile(value) or halves(value):
@@ -129,7 +130,7 @@ def main():
     differences = [place for place in range(count) if lines[place] != wanted[place]]
     for place in differences[:20]:
         print(texts[place], lines[place], wanted[place])
-    read_again = sum(1 for line in lines if line != b"refused" and compact(whole(json.loads(line.decode("utf-8")))) != line)
+    read_again = sum(1 for line in lines if line != b"refused" and compact(json.loads(line.decode("utf-8"))) != line)
     refused = sum(1 for line in lines if line == b"refused")
     print(f"texts {count} refused {refused} differences {len(differences)} read again otherwise {read_again}")
     if differences or read_again:
