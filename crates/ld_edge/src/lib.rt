@@ -11,8 +11,12 @@
 //! seen: over memory, and over a reader or writer.
 #![tactic(auto)]
 
+mod counted;
+mod door;
 mod faults;
 mod interrupted;
+mod listen_door;
+mod mem_door;
 mod mem_link;
 mod mem_sink;
 mod mem_source;
@@ -21,8 +25,12 @@ mod plan;
 mod status;
 mod std_sink;
 mod std_source;
+mod stream_link;
 
+pub use door::Door;
 pub use faults::FaultCount;
+pub use listen_door::ListenDoor;
+pub use mem_door::MemDoor;
 pub use mem_link::MemLink;
 pub use mem_sink::MemSink;
 pub use mem_source::MemSource;
@@ -31,3 +39,4 @@ pub use plan::FaultPlan;
 pub use status::Status;
 pub use std_sink::StdSink;
 pub use std_source::StdSource;
+pub use stream_link::StreamLink;

@@ -1,7 +1,7 @@
 ghost use Rattle.std.specs.Prelude.{◌≡◌, ◌<◌, ◌≤◌, None, length, IfOk, OnOk, OnErr};
 
+use crate::counted;
 use crate::faults::FaultCount;
-use crate::interrupted;
 use crate::outside::{Failed, Sink};
 use std::io::Write;
 
@@ -61,13 +61,7 @@ impl<W: Write + Drop> Sink for StdSink<W> {
         ensures rose { OnErr result (Rose self.old.faults.number self.new.faults.number) }
         ensures never_falls { NeverFalls self.old.faults.number self.new.faults.number }
     {
-        match interrupted::write(&mut self.writer, bytes) {
-            Ok(count) if count > 0 => Ok(count),
-            _ => {
-                self.faults.rise();
-                Err(Failed)
-            }
-        }
+        counted::write(&mut self.writer, bytes, &mut self.faults)
     }
 
     fn faults(&self) -> u64 {

@@ -1,7 +1,7 @@
 ghost use Rattle.std.specs.Prelude.{◌≡◌, ◌<◌, ◌≤◌, None, false, true, if◌then◌else◌, ◌==◌, length, IfOk, OnOk, OnErr};
 
+use crate::counted;
 use crate::faults::FaultCount;
-use crate::interrupted;
 use crate::outside::{Failed, Source};
 use std::io::Read;
 
@@ -69,18 +69,7 @@ impl<R: Read + Drop> Source for StdSource<R> {
         ensures rose { OnErr result (Rose self.old.faults.number self.new.faults.number) }
         ensures never_falls { NeverFalls self.old.faults.number self.new.faults.number }
     {
-        match interrupted::read(&mut self.reader, into) {
-            Ok(count) => {
-                if count == 0 {
-                    self.is_ended = true;
-                }
-                Ok(count)
-            }
-            Err(_) => {
-                self.faults.rise();
-                Err(Failed)
-            }
-        }
+        counted::read(&mut self.reader, into, &mut self.is_ended, &mut self.faults)
     }
 
     fn faults(&self) -> u64 {

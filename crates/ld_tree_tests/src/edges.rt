@@ -3,12 +3,14 @@ ghost use Rattle.std.specs.Prelude.{◌≡◌, ◌<◌, ℕ, length, take, IfOk}
 ghost use Rattle.std.specs.Io.KnownBytes.{prepend_known, append_known};
 
 use ld_edge::{
-    Failed, FaultPlan, Link, MemLink, MemSink, MemSource, Sink, Source, Status, StdSink, StdSource,
+    Door, Failed, FaultPlan, Link, ListenDoor, MemDoor, MemLink, MemSink, MemSource, Sink, Source,
+    Status, StdSink, StdSource,
 };
 use ld_tree::Raw;
 use std::alloc::Global;
 use std::io;
 use std::io::{ErrorKind, Read, Write};
+use std::net::{TcpListener, TcpStream};
 use std::process::Abort;
 use std::test::Fail;
 
@@ -243,4 +245,53 @@ fn a_plan_counts_failures(rt: HostRuntime) -> Result<(), Fail> {
 fn a_status_has_its_number(rt: HostRuntime) {
     assert_eq!(rt; Status::Done.code(), 0);
     assert_eq!(rt; Status::InputTooLong.code(), 8);
+}
+
+fn link(alloc: Global, text: &[u8]) -> Result<MemLink, Fail> {
+    let source = MemSource::new(Raw::from_vec(text.to_vec(alloc)?), 8, Vec::new(alloc));
+    Ok(MemLink::new(source, MemSink::new(alloc, 8, Vec::new(alloc))))
+}
+
+#[test]
+fn a_door_over_memory_gives_its_links_in_turn(rt: HostRuntime) -> Result<(), Fail> {
+    let alloc = rt.alloc();
+    let mut links = Vec::new(alloc);
+    links.push(link(alloc, b"first")?)?;
+    links.push(link(alloc, b"second")?)?;
+    let mut door = MemDoor::new(alloc, links, [2].to_vec(alloc)?)?;
+    let mut into = [0; 8];
+    let Ok(Some(mut first)) = door.next() else {
+        return Err("no link".into());
+    };
+    assert_eq!(rt; first.read(&mut into), Ok(5));
+    assert_eq!(rt; first.write(b"reply"), Ok(5));
+    assert!(rt; door.next().is_err());
+    assert_eq!(rt; door.faults(), 1);
+    assert!(rt; matches!(door.next(), Ok(Some(_))));
+    assert!(rt; matches!(door.next(), Ok(None)));
+    door.back(first);
+    assert_eq!(rt; door.returned().len(), 1);
+    Ok(())
+}
+
+/// A connection over the loopback interface: what one side writes, the other reads.
+#[test]
+fn a_door_over_a_listener_accepts_connections(rt: HostRuntime) -> Result<(), Fail> {
+    let listener = TcpListener::bind(&rt, "127.0.0.1:0")?;
+    let mut client = TcpStream::connect(&rt, listener.local_addr()?)?;
+    client.write_all(b"ask")?;
+    let mut door = ListenDoor::new(&listener, 1);
+    let Ok(Some(mut link)) = door.next() else {
+        return Err("no link".into());
+    };
+    let mut into = [0; 8];
+    assert_eq!(rt; link.read(&mut into), Ok(3));
+    assert_eq!(rt; &into[..3], b"ask".as_slice());
+    assert_eq!(rt; link.write(b"reply"), Ok(5));
+    door.back(link);
+    assert!(rt; matches!(door.next(), Ok(None)));
+    let mut reply = Vec::new(rt.alloc());
+    client.read_to_end(&mut reply)?;
+    assert_eq!(rt; reply.as_slice(), b"reply".as_slice());
+    Ok(())
 }
