@@ -1,0 +1,6 @@
+pub mod Heads
+pub mod Paths
+pub mod Dialogues
+pub mod Searching
+pub mod Pieces
+pub mod Reading
