@@ -4,3 +4,5 @@ pub mod Dialogues
 pub mod Searching
 pub mod Pieces
 pub mod Reading
+pub mod Replies
+pub mod Outcomes
