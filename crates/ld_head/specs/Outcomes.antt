@@ -1,6 +1,6 @@
 -- What a request comes to, and the reply that it gets. The table is the project's own; the statuses have the meaning of
 -- RFC 9110, section 15, and of RFC 6585, section 5.
-use Rattle.std.specs.Prelude.{ℕ, Bool, true, false, ◌||◌, List, [], Option, Some, None, if◌then◌else◌, ◌==◌, pos, codes}
+use Rattle.std.specs.Prelude.{ℕ, Bool, true, false, ◌||◌, List, Option, None, if◌then◌else◌, ◌==◌, pos, codes}
 use Rattle.ld_tree.specs.CompactText.{text}
 use Rattle.ld_tree.specs.Maps.{empty, put}
 use Rattle.ld_tree.specs.Names.{Sorted}

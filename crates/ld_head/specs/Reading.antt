@@ -1,13 +1,14 @@
 -- What the code answers, as the definitions see it.
-use Rattle.std.specs.Prelude.{Result, Ok, Err}
+use Rattle.std.specs.Prelude.{◌≡◌, ℕ, List, length, Result, Ok, Err}
 use Rattle.ld_head.specs.declared.dialogue.Item.{Item as ItemSeen}
 use Rattle.ld_head.specs.declared.dialogue.Item.TheVariants as seen
 use Rattle.ld_head.specs.declared.front.Next.{Next}
 use Rattle.ld_head.specs.declared.front.Next.TheVariants as next
 use Rattle.ld_head.specs.declared.head.Head.{Head}
+use Rattle.ld_head.specs.declared.whole.Summary.{Summary}
 use Rattle.ld_head.specs.declared.seen.Refused.{Refused}
 use Rattle.ld_head.specs.declared.seen.Seen.{Seen}
-use Rattle.ld_head.specs.Dialogues.{Item, Ask, Bad, Opening, Stops, Shuts, GoesOn}
+use Rattle.ld_head.specs.Dialogues.{Item, Ask, Bad, Dialogue, IsDialogue, Opening, Stops, Shuts, GoesOn}
 use Rattle.ld_head.specs.Heads.{Verdict, Accepts, Refuses}
 
 -- a head as it lies in its block
@@ -27,3 +28,10 @@ abbrev pub opening_of : Next → Opening
 opening_of (next.Ended ending) = Stops ending
 opening_of (next.Last item marks) = Shuts (record { item = item_of item; marks = marks })
 opening_of (next.Item item marks rest) = GoesOn (record { item = item_of item; marks = marks }) rest.now
+
+-- a dialogue that the bytes say, in short
+pub record IsOutline (bytes : List ℕ) (summary : Summary) : Type 0 where
+  pub dialogue : Dialogue
+  pub says : IsDialogue bytes dialogue
+  pub items : length dialogue.items ≡ summary.items
+  pub ending : dialogue.ending ≡ summary.ending

@@ -32,19 +32,44 @@ pub(crate) fn body_text(alloc: Global, outcome: &Outcome) -> Result<Raw, NoMemor
             number_text(alloc, b"{\"bytes\":", *bytes, b",\"own\":\"archive full\"")
         }
         Outcome::HistoryFull { events } => {
-            number_text(alloc, b"{\"events\":", *events, b",\"own\":\"history full\"")
+            number_text(
+                alloc,
+                b"{\"events\":",
+                *events,
+                b",\"own\":\"history full\"",
+            )
         }
         Outcome::Held { session } => {
-            number_text(alloc, b"{\"own\":\"held\",\"session\":", u64::from(*session), b"")
+            number_text(
+                alloc,
+                b"{\"own\":\"held\",\"session\":",
+                u64::from(*session),
+                b"",
+            )
         }
         Outcome::Revising { flight } => {
-            number_text(alloc, b"{\"flight\":", u64::from(*flight), b",\"own\":\"revising\"")
+            number_text(
+                alloc,
+                b"{\"flight\":",
+                u64::from(*flight),
+                b",\"own\":\"revising\"",
+            )
         }
         Outcome::Flying { flight } => {
-            number_text(alloc, b"{\"flight\":", u64::from(*flight), b",\"own\":\"flying\"")
+            number_text(
+                alloc,
+                b"{\"flight\":",
+                u64::from(*flight),
+                b",\"own\":\"flying\"",
+            )
         }
         Outcome::NotStored { version } => {
-            number_text(alloc, b"{\"own\":\"not stored\",\"version\":", *version, b"")
+            number_text(
+                alloc,
+                b"{\"own\":\"not stored\",\"version\":",
+                *version,
+                b"",
+            )
         }
         Outcome::NoMemory => own_text(alloc, "no memory"),
         Outcome::Bad { status } => own_text(alloc, bad_own(*status)),

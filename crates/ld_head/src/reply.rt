@@ -3,16 +3,13 @@ ghost use Rattle.std.specs.Prelude.{◌≡◌, ◌++◌, OnOk, OnErr, IfOk};
 ghost use Rattle.ld_head.specs.Outcomes.{reply_of};
 ghost use Rattle.ld_head.specs.Replies.{head_text, media_text, reply_text};
 
-use crate::dialogue::Marks;
 use crate::body::body_text;
+use crate::dialogue::Marks;
 use crate::outcome::Outcome;
 use crate::print::{print_field, print_field_if, print_number, print_request_fields, print_status};
 use bytes::BytesMut;
 use ld_tree::{NoMemory, Raw};
 use std::alloc::Global;
-
-/// The text that asks for the body (RFC 9110, section 15.2.1).
-pub const INTERIM: &[u8] = b"HTTP/1.1 100 Continue\r\n\r\n";
 
 // The longest head has fewer bytes.
 const HEAD_ROOM: usize = 256;
@@ -99,7 +96,11 @@ fn head_text(alloc: Global, reply: &Reply) -> Result<Vec<u8>, NoMemory>
     let mut head = Vec::with_capacity(alloc, HEAD_ROOM)?;
     print_status(reply.status, &mut head)?;
     print_field(b"Content-Type", reply.media.text().as_bytes(), &mut head)?;
-    print_number(b"Content-Length", reply.body.as_slice().len() as u64, &mut head)?;
+    print_number(
+        b"Content-Length",
+        reply.body.as_slice().len() as u64,
+        &mut head,
+    )?;
     print_request_fields(reply.fields, &mut head)?;
     print_field_if(reply.allow, b"Allow", b"POST", &mut head)?;
     print_field_if(reply.close, b"Connection", b"close", &mut head)?;

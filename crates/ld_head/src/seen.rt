@@ -13,6 +13,7 @@ use crate::told::{has_good_length, told_length};
 use httparse::{EMPTY_HEADER, Header, Request, Status};
 
 const MOST_FIELDS: usize = 64;
+
 const LAST_ITEM: u32 = 65_535;
 
 /// A head that passed the checks.

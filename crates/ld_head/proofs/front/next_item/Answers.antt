@@ -1,4 +1,4 @@
-use Rattle.std.proofs.Common.{◌≡◌, arith, refl, sym, subst}
+use Rattle.std.proofs.Common.{arith, refl, sym, subst}
 use Rattle.ld_head.specs.Dialogues.{OpensAt, Opens, Stops}
 use Rattle.ld_head.specs.Reading.{opening_of}
 use Rattle.ld_head.proofs.Arriving.{stops_in, too_long_in, whole_in}
