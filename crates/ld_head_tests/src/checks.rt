@@ -1,4 +1,5 @@
 //! The checks of a head, of its path and its method, in their order.
+ghost use Rattle.std.specs.Prelude.{◌<◌};
 
 use crate::told::{PLAIN, first_of};
 use ld_head::{HeadRefusal, Marks, read_head};

@@ -1,4 +1,5 @@
 //! Where heads and inputs end, however the bytes are cut.
+ghost use Rattle.std.specs.Prelude.{◌<◌};
 
 use crate::told::first_of;
 use ld_head::{Begun, Came, Ending, Next, Summary, next_item, outline};
@@ -8,7 +9,7 @@ use std::process::Abort;
 use std::test::Fail;
 
 const REQUEST: &[u8] =
-    b"POST /expand HTTP/1.1\r\nHost: h\r\nContent-Length: 14\r\nExpect: 100-continue\r\n\r\n{\"document\":{}}";
+    b"POST /expand HTTP/1.1\r\nHost: h\r\nContent-Length: 15\r\nExpect: 100-continue\r\n\r\n{\"document\":{}}";
 
 // How many bytes of it the head has.
 const HEAD: usize = 76;
@@ -102,10 +103,13 @@ fn a_head_is_the_same_in_any_pieces(rt: HostRuntime) {
     }
 }
 
+// How many bytes of the head below aren't its long field's value.
+const BESIDE_FILLER: usize = 34;
+
 // A head of so many bytes, with one long field.
 fn long_head(alloc: Global, len: usize) -> Result<String, Fail> {
     let mut head = String::from_str(alloc, "\r\nGET / HTTP/1.1\r\nHost: h\r\nx: ")?;
-    while head.len() + 4 < len {
+    for _ in BESIDE_FILLER..len {
         head.push('a')?;
     }
     head.push_str("\r\n\r\n")?;
