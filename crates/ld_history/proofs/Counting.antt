@@ -5,8 +5,8 @@ use Rattle.ld_history.specs.declared.session.Last.{Last}
 use Rattle.ld_history.specs.declared.session.Last.TheVariants as last
 use Rattle.ld_history.specs.Store.{Store}
 use Rattle.ld_history.specs.Words.{is_idle}
-use Rattle.ld_history.specs.Legal.{state, IsKept}
-use Rattle.ld_history.specs.Counts.{Entries}
+use Rattle.ld_history.specs.Legal.{state, Entries}
+use Rattle.ld_history.specs.ByTurns.{IsKept}
 use Rattle.ld_history.specs.Choices.{CanCount}
 use Rattle.ld_history.proofs.Bounded.{Bounded, bounded}
 

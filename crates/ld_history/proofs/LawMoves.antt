@@ -17,9 +17,9 @@ use Rattle.ld_history.specs.declared.session.End.{End}
 use Rattle.ld_history.specs.declared.session.End.TheVariants as end
 use Rattle.ld_history.specs.Store.{Store}
 use Rattle.ld_history.specs.Words.{at_number, is_idle, has_request, is_pinned}
-use Rattle.ld_history.specs.Rules.{may_pin_again, made_place}
+use Rattle.ld_history.specs.Rules.{may_pin_again, place_was_made}
 use Rattle.ld_history.specs.After.{ended_as, after_pinned, after_found, after_led, after_joined, after_evicted, after_revise_led, after_answered}
-use Rattle.ld_history.specs.Counts.{owner, leader, grown, lacking, tried}
+use Rattle.ld_history.specs.Counts.{owner, leader, spent_with, lacked_with, tried}
 use Rattle.ld_history.proofs.LawReads.{Pins, Begins, GoesOn, Finds, Leads, Joins, Revises, Evicts, Answers, Flies, pinned_is}
 use Rattle.ld_history.proofs.LawFlights.{flight_last}
 use Rattle.ld_history.proofs.LawCrew.{Crew, leads_it, is_evicting, changed_is}
@@ -168,11 +168,11 @@ module _ (limits : Limits) (small : limits.held ≤ 64) (store : Store) (h : Cre
 
   -- ---- 4 Led
   module _ (session : ℕ) (iri : List ℕ) (flight : ℕ) (p : Leads limits store session iri flight) where
-    ready_busy : (is_pinned p.s.last ≡ true) ⊎ (made_place limits store session iri ≡ true) → p.s.last ≡ last.Idle → ⊥
+    ready_busy : (is_pinned p.s.last ≡ true) ⊎ (place_was_made limits store session iri ≡ true) → p.s.last ≡ last.Idle → ⊥
     ready_busy (inl pinned) = pinned_busy p.s (pinned_is p.s.last pinned)
     ready_busy (inr made) = evicting_busy p.s.last (made_by limits store h session iri p.s p.is made)
 
-    ready_spends : (is_pinned p.s.last ≡ true) ⊎ (made_place limits store session iri ≡ true) → (count : ℕ) → Spends store.flights p.s.last (length p.s.held) count → (count ≤ 4 * length p.s.held + 2)
+    ready_spends : (is_pinned p.s.last ≡ true) ⊎ (place_was_made limits store session iri ≡ true) → (count : ℕ) → Spends store.flights p.s.last (length p.s.held) count → (count ≤ 4 * length p.s.held + 2)
     ready_spends (inl pinned) count sp = omega (arith, pinned_spends session p.s p.is (pinned_is p.s.last pinned) count sp)
     ready_spends (inr made) count sp = evicting_spends store.flights p.s.last (length p.s.held) count (made_by limits store h session iri p.s p.is made) sp
 
@@ -241,8 +241,8 @@ module _ (limits : Limits) (small : limits.held ≤ 64) (store : Store) (h : Cre
 
   -- ---- a flight ends
   module _ (now : Store) (event : Event (List ℕ)) (flight : ℕ) (how : End) (over : how ≡ end.UnderWay → ⊥) (p : Flies store flight)
-      (own : owner store event ≡ leader store flight) (grows : (count : ℕ) → grown count event ≡ count + 1)
-      (lacks : (iris : List (List ℕ)) → lacking iris event ≡ iris) (tries : (count : ℕ) → tried count event ≡ count)
+      (own : owner store event ≡ leader store flight) (grows : (count : ℕ) → spent_with count event ≡ count + 1)
+      (lacks : (iris : List (List ℕ)) → lacked_with iris event ≡ iris) (tries : (count : ℕ) → tried count event ≡ count)
       (sessions : now.sessions ≡ store.sessions) (flights : now.flights ≡ ended_as store.flights flight how) where
     owner_is : owner store event ≡ p.f.session
     owner_is = own ∙ ap (λ o. unwrap_or (option_map (λ (f : Flight). f.session) o) 0) p.is

@@ -17,10 +17,11 @@ use Rattle.ld_history.specs.declared.session.Session.{Session}
 use Rattle.ld_history.specs.declared.session.Last.TheVariants as last
 use Rattle.ld_history.specs.Store.{Store, empty_store}
 use Rattle.ld_history.specs.Words.{at_number, has_request}
-use Rattle.ld_history.specs.Rules.{allows, allows_given, may_open, may_close}
+use Rattle.ld_history.specs.Rules.{may_open, may_close}
 use Rattle.ld_history.specs.After.{after}
-use Rattle.ld_history.specs.Legal.{state, Legal}
-use Rattle.ld_history.specs.Counts.{Entries, owner, grown, spent, reserve}
+use Rattle.ld_history.specs.Legal.{state, Entries}
+use Rattle.ld_history.specs.Counts.{owner, spent_with, spent, reserve}
+use Rattle.ld_history.specs.ByTurns.{allows, allows_given, Legal}
 use Rattle.ld_history.proofs.LawTables.{length-take_found}
 use Rattle.ld_history.proofs.LawAlong.{along, replay-append}
 use Rattle.ld_history.proofs.LawReads.{read_open, read_close}
@@ -68,10 +69,10 @@ module _ (limits : Limits) (small : limits.held ≤ 64) (front : Entries) (legal
     -- what another session may still append stays
     reserve_other : (e : ℕ × Session) → is_eq (nat_cmp (owner (state front) entry.event) e.0) ≡ false → reserve (front ++ entry ∷ []) e ≡ reserve front e
     reserve_other e n = ap (λ k. if has_request e.1 then 320 - k else 0)
-        (folded_other (λ count (x : Entry (List ℕ) Given). grown count x.event) 0 front entry e.0 (unequal (owner (state front) entry.event) e.0 n))
+        (folded_other (λ count (x : Entry (List ℕ) Given). spent_with count x.event) 0 front entry e.0 (unequal (owner (state front) entry.event) e.0 n))
 
-    reserve_mine : (k : ℕ) → is_eq (nat_cmp (owner (state front) entry.event) k) ≡ true → (s : Session) → reserve (front ++ entry ∷ []) (k, s) ≡ left s (grown (spent k front) entry.event)
-    reserve_mine k is s = ap (λ n. left s n) (folded_mine (λ count (x : Entry (List ℕ) Given). grown count x.event) 0 front entry k (same_number (owner (state front) entry.event) k is))
+    reserve_mine : (k : ℕ) → is_eq (nat_cmp (owner (state front) entry.event) k) ≡ true → (s : Session) → reserve (front ++ entry ∷ []) (k, s) ≡ left s (spent_with (spent k front) entry.event)
+    reserve_mine k is s = ap (λ n. left s n) (folded_mine (λ count (x : Entry (List ℕ) Given). spent_with count x.event) 0 front entry k (same_number (owner (state front) entry.event) k is))
 
     -- by number, whichever spelling it has
     at_owner : (x y : Session) (k : ℕ) → is_eq (nat_cmp (owner (state front) entry.event) k) ≡ true
@@ -89,7 +90,7 @@ module _ (limits : Limits) (small : limits.held ≤ 64) (front : Entries) (legal
       let m = moved limits small (state front) was entry.given entry.event inside ok in
       let track = tracked limits small front legal (owner (state front) entry.event) in
       let sums = sum_set (owner (state front) entry.event) (reserve front) (reserve (front ++ entry ∷ [])) (reserve_other entry) m.s m.t (at_owner entry m.s m.t) (state front).sessions was.crew.sorted m.is in
-      let now : reserve (front ++ entry ∷ []) (owner (state front) entry.event, m.t) ≡ left m.t (grown (spent (owner (state front) entry.event) front) entry.event)
+      let now : reserve (front ++ entry ∷ []) (owner (state front) entry.event, m.t) ≡ left m.t (spent_with (spent (owner (state front) entry.event) front) entry.event)
       = reserve_mine entry (owner (state front) entry.event) (owner_itself entry) m.t in
       let sum : sum_by (reserve (front ++ entry ∷ [])) (after (state front) entry).sessions ≡ sum_by (reserve (front ++ entry ∷ [])) (set_value (is_at (nat_cmp (owner (state front) entry.event))) (state front).sessions m.t)
       = ap (sum_by (reserve (front ++ entry ∷ []))) m.set in

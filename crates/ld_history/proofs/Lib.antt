@@ -21,6 +21,8 @@ pub mod LawRoom
 pub mod LawShared
 pub mod LawSits
 pub mod LawSound
+pub mod LawStock
+pub mod LawTold
 pub mod LawSums
 pub mod LawTables
 pub mod LawTracked

@@ -12,8 +12,7 @@ use Rattle.ld_history.specs.declared.session.Last.TheVariants as last
 use Rattle.ld_history.specs.declared.plans.Replacement.{Replacement}
 use Rattle.ld_history.specs.Store.{Store}
 use Rattle.ld_history.specs.Words.{at_number}
-use Rattle.ld_history.specs.Rules.{allows}
-use Rattle.ld_history.specs.Legal.{IsKept}
+use Rattle.ld_history.specs.ByTurns.{allows, IsKept}
 use Rattle.ld_history.specs.After.{after, after_led, after_evicted, after_answered, changed, change_found, told, holding, turned, take_iri}
 use Rattle.ld_history.specs.Steps.{plain}
 use Rattle.ld_history.specs.Plans.{goes_out, comes_in, told_out}

@@ -9,9 +9,7 @@ use Rattle.ld_history.specs.declared.session.Last.TheVariants as last
 use Rattle.ld_history.specs.declared.session.Flight.{Flight}
 use Rattle.ld_history.specs.Store.{Store}
 use Rattle.ld_history.specs.Words.{at_number, flight_at, is_under_way, is_published}
-use Rattle.ld_history.specs.Rules.{allows}
-use Rattle.ld_history.specs.Legal.{state}
-use Rattle.ld_history.specs.Counts.{Entries}
+use Rattle.ld_history.specs.Legal.{Entries, state, is_allowed}
 
 -- the flight of this number is under way
 abbrev pub IsUnderWay : Store → ℕ → Flight → Type 0
@@ -43,5 +41,5 @@ pub record WasLeft (store : Store) (s : Session) (iri : List ℕ) : Type 0 where
 
 -- the entry is allowed after these, and within the limit
 pub record MayFollow (limits : Limits) (entries : Entries) (entry : Entry (List ℕ) Given) : Type 0 where
-  pub allowed : IsTrue (allows limits (state entries) entry)
+  pub allowed : IsTrue (is_allowed limits entries entry)
   pub room : length entries + 1 ≤ limits.events

@@ -12,5 +12,6 @@ pub mod Leading
 pub mod Order
 pub mod Laws
 pub mod Steps
+pub mod ByTurns
 pub mod Choices
 pub mod Plans

@@ -208,8 +208,16 @@ impl Tables {
                 Some(given) => self.published(*flight, *version, given),
                 None => Ok(()),
             },
-            Event::Failed { flight, .. } => {
-                self.landed(*flight, End::Failed);
+            Event::Failed {
+                flight,
+                before,
+                after,
+            } => {
+                let how = End::Failed {
+                    before: *before,
+                    after: *after,
+                };
+                self.landed(*flight, how);
                 Ok(())
             }
             Event::Lapsed { flight } => {

@@ -8,9 +8,9 @@ ghost use Rattle.ld_history.specs.declared.event.How.TheVariants as how;
 ghost use Rattle.ld_history.specs.declared.limits.Limits.{Limits};
 ghost use Rattle.ld_history.specs.declared.session.Flight.{Flight};
 ghost use Rattle.ld_history.specs.declared.session.Session.{Session};
-ghost use Rattle.ld_history.specs.Words.{has_request, holds, is_lead, is_led, is_pinned, is_stored, same_iri, was_stored};
-ghost use Rattle.ld_history.specs.Legal.{state, Legal};
-ghost use Rattle.ld_history.specs.Counts.{Entries, versions_made, pins, leads_under_way, loads_under_way, lacked, attempts, spent, reserve};
+ghost use Rattle.ld_history.specs.Words.{has_request, holds, is_lead, is_led, is_pinned, is_stored, same_iri};
+ghost use Rattle.ld_history.specs.Legal.{Entries, state, Legal, is_in_stock};
+ghost use Rattle.ld_history.specs.Counts.{versions_made, pins, leads_under_way, loads_under_way, lacked, attempts, spent, reserve};
 ghost use Rattle.ld_history.specs.Laws.{IsUnderWay, IsOpenAs, LeadsNothing, WasLeft, MayFollow};
 
 /// The version is the number of Published and Evicted entries, and what a session pins never falls.
@@ -45,7 +45,7 @@ pub fn held_stays()
         → IsTrue (is_stored (state entries) iri) ⊎ (IsTrue (is_led (state entries) iri) ⊎ WasLeft (state entries) s iri) }
     ensures pinned { (limits : Limits) (entries : Entries) (session : ℕ) (s : Session) (iri : List ℕ) → Legal limits entries
         → IsOpenAs (state entries) session s → IsTrue (is_pinned s.last) → IsTrue (holds s iri)
-        → IsTrue (was_stored (state entries) iri s.version) }
+        → IsTrue (is_in_stock entries iri s.version) }
 {}
 
 /// The IRIs that one request lacks differ, and are at most `Limits::held`. So it makes at most one

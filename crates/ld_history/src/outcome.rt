@@ -37,7 +37,7 @@ fn load_outcome(flight: u32, end: Option<End>) -> Option<How>
     ensures { result ≡ steps.load_outcome flight end }
 {
     match end {
-        Some(End::Failed) => Some(How::LoadFault { flight }),
+        Some(End::Failed { .. }) => Some(How::LoadFault { flight }),
         Some(End::Lapsed) => Some(How::NoMemory),
         _ => None,
     }
@@ -49,7 +49,7 @@ fn revision_outcome(flight: u32, end: Option<End>) -> Option<How>
     match end {
         Some(End::Published { version }) => Some(How::Revised { version }),
         Some(End::Same) => Some(How::Same),
-        Some(End::Failed) => Some(How::LoadFault { flight }),
+        Some(End::Failed { .. }) => Some(How::LoadFault { flight }),
         Some(End::Lapsed) => Some(How::NoMemory),
         _ => None,
     }

@@ -50,7 +50,7 @@ pub(crate) enum End {
     UnderWay,
     Published { version: u64 },
     Same,
-    Failed,
+    Failed { before: u64, after: u64 },
     Lapsed,
 }
 

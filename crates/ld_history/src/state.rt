@@ -1,6 +1,6 @@
 //! A history with the tables that a step reads, and the one way in which it grows.
 ghost use Rattle.std.specs.Prelude.{◌≡◌, [], ◌∷◌, ◌++◌, length, true, false, IfOk, OnOk, OnErr};
-ghost use Rattle.ld_history.specs.Rules.{allows};
+ghost use Rattle.ld_history.specs.ByTurns.{allows};
 ghost use Rattle.ld_history.specs.Legal as legal;
 
 use crate::event::Entry;
@@ -27,7 +27,7 @@ impl Model for State {
     ghost Value = { History };
 
     ghost use Rattle.ld_history.specs.Seen.{seen};
-    ghost use Rattle.ld_history.specs.Legal.{IsKept};
+    ghost use Rattle.ld_history.specs.ByTurns.{IsKept};
 
     ghost view = { λ s. record { limits = s.limits; entries = s.history.items } };
 
@@ -77,9 +77,9 @@ impl State {
 /// holds, of which there are at most 64; but where a context may go or may go no more, the versions after
 /// its own, at most one for each stored context, are moved by one place.
 pub fn step(alloc: Global, state: &mut State, entry: Entry) -> Result<(), StepRefusal>
-    ensures allowed { OnOk result (allows state.old.limits (legal.state state.old.entries) entry ≡ true) }
+    ensures allowed { OnOk result (legal.is_allowed state.old.limits state.old.entries entry ≡ true) }
     ensures appended { OnOk result (state.new ≡ record state.old { entries = state.old.entries ++ entry ∷ [] }) }
-    ensures refused { result ≡ Err StepRefusal.NotAllowed → allows state.old.limits (legal.state state.old.entries) entry ≡ false }
+    ensures refused { result ≡ Err StepRefusal.NotAllowed → legal.is_allowed state.old.limits state.old.entries entry ≡ false }
     ensures unchanged { OnErr result (state.new ≡ state.old) }
 {
     let entry = state.tables.keep(alloc, entry)?;

@@ -1,7 +1,7 @@
 //! A request wants a context out of the store.
 ghost use Rattle.std.specs.Prelude.{◌≡◌, true, [], ◌∷◌, ◌++◌, None, IfOk, OnOk, OnErr};
 ghost use Rattle.ld_history.specs.Legal as legal;
-ghost use Rattle.ld_history.specs.Rules.{allows};
+ghost use Rattle.ld_history.specs.ByTurns.{allows};
 ghost use Rattle.ld_history.specs.After.{after};
 ghost use Rattle.ld_history.specs.Plans.{told_out};
 ghost use Rattle.ld_history.specs.Steps.{Answers, grown, evict_step, plain};

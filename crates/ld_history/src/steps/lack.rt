@@ -1,7 +1,7 @@
 //! A request lacks a context.
 ghost use Rattle.std.specs.Prelude.{◌≡◌, true, [], ◌∷◌, ◌++◌, None, IfOk, OnOk, OnErr};
 ghost use Rattle.ld_history.specs.Legal as legal;
-ghost use Rattle.ld_history.specs.Rules.{allows};
+ghost use Rattle.ld_history.specs.ByTurns.{allows};
 ghost use Rattle.ld_history.specs.After.{after};
 ghost use Rattle.ld_history.specs.Plans.{goes_out, comes_in};
 ghost use Rattle.ld_history.specs.Steps.{Answers, grown, lack_step, plain};

@@ -1,7 +1,7 @@
 use Rattle.std.proofs.Common.{◌≡◌, sym, subst, true, arith}
 use Rattle.ld_history.specs.Seen.{seen}
 use Rattle.ld_history.specs.Legal.{History, state}
-use Rattle.ld_history.specs.Rules.{allows}
+use Rattle.ld_history.specs.ByTurns.{allows}
 use Rattle.ld_history.proofs.KeptStep.{bytes_within}
 use Rattle.ld_history.proofs.Allowed.{room}
 use Rattle.ld_history.proofs.Whole.{kept-push}

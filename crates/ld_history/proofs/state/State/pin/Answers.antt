@@ -1,7 +1,7 @@
 use Rattle.std.proofs.Common.{ap, ◌∙◌, sym, Some}
 use Rattle.ld_history.specs.Seen.{seen}
 use Rattle.ld_history.specs.Legal.{state}
-use Rattle.ld_history.specs.Rules.{allows}
+use Rattle.ld_history.specs.ByTurns.{allows}
 use Rattle.ld_history.proofs.Counting.{can_count}
 use Rattle.ld_history.proofs.Pinning.{pin_allowed}
 use Rattle.ld_history.proofs.state.State.pin.Goals as goal

@@ -2,7 +2,7 @@ use Rattle.std.proofs.Common.{[], ◌∷◌, ◌++◌, ap, ◌∙◌, sym}
 use Rattle.std.specs.Option.{option_map}
 use Rattle.ld_history.specs.Seen.{seen}
 use Rattle.ld_history.specs.Legal.{state}
-use Rattle.ld_history.specs.Rules.{allows}
+use Rattle.ld_history.specs.ByTurns.{allows}
 use Rattle.ld_history.specs.Steps.{plain, grown, revise_step}
 use Rattle.ld_history.proofs.Counting.{can_count}
 use Rattle.ld_history.proofs.Revising.{revise_allowed, revise_taken}

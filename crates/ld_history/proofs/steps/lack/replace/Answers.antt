@@ -1,7 +1,7 @@
 use Rattle.std.proofs.Common.{◌≡◌, sym, subst, true, None}
 use Rattle.ld_history.specs.Seen.{seen}
 use Rattle.ld_history.specs.Legal.{History, state}
-use Rattle.ld_history.specs.Rules.{allows}
+use Rattle.ld_history.specs.ByTurns.{allows}
 use Rattle.ld_history.specs.After.{after}
 use Rattle.ld_history.specs.Steps.{plain}
 use Rattle.ld_history.specs.Plans.{goes_out, comes_in}
