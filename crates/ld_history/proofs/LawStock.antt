@@ -1,6 +1,6 @@
 -- A version's stock along a history: the current version's is what is stored, an earlier one's stays as the
 -- list grows, and an IRI's turns tell of each whether it had the IRI.
-use Rattle.std.proofs.Common.{◌≡◌, ℕ, ◌+◌, ◌≤◌, ◌<◌, List, [], ◌∷◌, ◌++◌, refl, sym, ap, ◌∙◌, subst, arith, Option, Some, None, Bool, true, false, cond, ◌⊎◌, inl, inr, ◌&&◌, le-leb, append_assoc, append-nil}
+use Rattle.std.proofs.Common.{◌≡◌, ℕ, ◌+◌, ◌≤◌, ◌<◌, List, [], ◌∷◌, ◌++◌, refl, sym, ap, ◌∙◌, subst, arith, Option, Some, None, Bool, true, false, cond, inl, inr, ◌&&◌, le-leb, append_assoc, append-nil}
 use Rattle.std.specs.Prelude.{is_some, if◌then◌else◌, nat_le, map, take_while}
 use Rattle.std.specs.List.{list_all}
 use Rattle.std.specs.Option.{option_map}
@@ -21,7 +21,7 @@ use Rattle.ld_history.specs.declared.session.Stored.{Stored}
 use Rattle.ld_history.specs.Store.{Store, empty_store}
 use Rattle.ld_history.specs.Words.{at_iri, flight_at, is_stored}
 use Rattle.ld_history.specs.After.{after, after_event, with_flight, landed, answered_by, turned}
-use Rattle.ld_history.specs.Legal.{Entries, replay, state, is_by, stock, is_in_stock}
+use Rattle.ld_history.specs.Legal.{Entries, state, is_by, stock, is_in_stock}
 use Rattle.ld_history.specs.Counts.{makes_version}
 use Rattle.ld_history.specs.ByTurns.{was_stored, allows_given, allows, Legal, LegalFrom}
 use Rattle.ld_history.proofs.LawAlong.{along, replay-append, legal-append, legal_more}

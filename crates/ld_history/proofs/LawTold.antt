@@ -1,5 +1,5 @@
 -- Asked of the stock or of the turns, the rules say the same of a legal history; so the same histories are legal.
-use Rattle.std.proofs.Common.{◌≡◌, ℕ, ◌+◌, List, [], ◌∷◌, ◌++◌, length, refl, sym, ap, ◌∙◌, subst, Option, Some, None, Bool, true, not, ◌&&◌, ◌||◌}
+use Rattle.std.proofs.Common.{◌≡◌, ℕ, List, [], ◌∷◌, ◌++◌, length, refl, sym, ap, ◌∙◌, subst, Option, Some, None, Bool, true, not, ◌&&◌, ◌||◌}
 use Rattle.std.specs.Prelude.{if◌then◌else◌, nat_le, nat_lt, ◌==◌, option_map}
 use Rattle.ld_history.specs.declared.limits.Limits.{Limits}
 use Rattle.ld_history.specs.declared.event.Given.{Given}
@@ -9,7 +9,7 @@ use Rattle.ld_history.specs.declared.event.How.{How}
 use Rattle.ld_history.specs.declared.event.How.TheVariants as how
 use Rattle.ld_history.specs.declared.event.Entry.{Entry}
 use Rattle.ld_history.specs.declared.session.Session.{Session}
-use Rattle.ld_history.specs.Store.{Store, empty_store}
+use Rattle.ld_history.specs.Store.{Store}
 use Rattle.ld_history.specs.Words.{at_number, is_some_and, is_pinned, is_stored, has_request, has_flight}
 use Rattle.ld_history.specs.Rules as rules
 use Rattle.ld_history.specs.Legal as legal
@@ -17,7 +17,6 @@ use Rattle.ld_history.specs.Legal.{Entries, History, state, is_in_stock, is_allo
 use Rattle.ld_history.specs.Steps.{of_found, of_session, where_, taken, plain, ending, missing, lack_taken, answer_taken, lack_step, answer_step}
 use Rattle.ld_history.specs.ByTurns as turns
 use Rattle.ld_history.specs.ByTurns.{was_stored, LegalFrom, IsKept}
-use Rattle.ld_history.proofs.LawAlong.{replay-append, legal_more}
 use Rattle.ld_history.proofs.LawSound.{sound}
 use Rattle.ld_history.proofs.LawStock.{turns_tell, legal_push, pushed}
 
@@ -130,6 +129,10 @@ by_stock_from limits before (entry ∷ rest) legal h = (
 
 pub by_stock : (limits : Limits) (entries : Entries) → turns.Legal limits entries → legal.Legal limits entries
 by_stock limits entries h = by_stock_from limits [] entries tt h
+
+pub legal_front : (limits : Limits) (before front back : Entries) → legal.LegalAfter limits before (front ++ back) → legal.LegalAfter limits before front
+legal_front limits before [] back h = tt
+legal_front limits before (entry ∷ front) back h = (h.0, legal_front limits (before ++ entry ∷ []) front back h.1)
 
 -- ---- the tables of a history
 module _ (limits : Limits) (entries : Entries) (store : Store) (h : History) (kept : IsKept limits entries store) (view : record { limits = limits; entries = entries } ≡ h) where

@@ -11,6 +11,8 @@ pub mod Index
 pub mod Leading
 pub mod Order
 pub mod Laws
+pub mod Seats
+pub mod SeatsStay
 pub mod Steps
 pub mod ByTurns
 pub mod Choices

@@ -1,4 +1,4 @@
-use Rattle.std.proofs.Common.{[], ◌∷◌, ◌++◌, None, ◌≡◌, ◌∙◌, sym, ap, subst, true, Some}
+use Rattle.std.proofs.Common.{[], ◌∷◌, ◌++◌, ◌≡◌, ◌∙◌, sym, ap, subst, true, Some}
 use Rattle.std.specs.Prelude.{option_map}
 use Rattle.ld_history.specs.declared.answers.LackAnswer.TheVariants as lack_answer
 use Rattle.ld_history.specs.declared.plans.LackPlan.{LackPlan}

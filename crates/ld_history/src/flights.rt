@@ -1,10 +1,12 @@
-//! The IRI that a flight loads.
+//! What is told of a flight.
 ghost use Rattle.std.specs.Prelude.{◌≡◌};
 ghost use Rattle.std.specs.Option.{option_map, option_copied};
 ghost use Rattle.ld_history.specs.Legal.{state};
 ghost use Rattle.ld_history.specs.Words.{flight_at};
+ghost use Rattle.ld_history.specs.Rules as rules;
 
 use crate::name::Name;
+use crate::session::End;
 use crate::state::State;
 
 impl State {
@@ -16,5 +18,13 @@ impl State {
             Some(found) => Some(&found.iri),
             None => None,
         }
+    }
+
+    /// How the flight of this number has ended, or that it is under way; None where there is no such
+    /// flight.
+    pub fn end_of(&self, flight: u32) -> Option<End>
+        ensures { result ≡ rules.end_of (state self.now.entries) flight }
+    {
+        self.tables.end_of(flight)
     }
 }
