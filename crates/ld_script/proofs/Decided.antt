@@ -145,7 +145,7 @@ Arguments v rest = (read : Option Line) × AreArguments v rest read
 fail_after : {rest a b c : List ℕ} → IsSplitTwice rest a b c → (f n : ℕ) → f < 2 ^ 32 → a ≡ decimal f → n < 2 ^ 63 → b ≡ decimal n → Below c (2 ^ 63) → Arguments verb.Fail rest
 fail_after {rest} {a} {b} {c} t f n fits first low second (inl (m, high, third)) = (
   Some (line.Fail f n m),
-  ((fits, (low, high)), refl, t.parts ∙ ap (λ w. w ++ 32 ∷ (b ++ 32 ∷ c)) first ∙ ap (λ w. decimal f ++ 32 ∷ (w ++ 32 ∷ c)) second ∙ ap (λ w. decimal f ++ 32 ∷ (decimal n ++ 32 ∷ w)) third),
+  ((fits, low, high), refl, t.parts ∙ ap (λ w. w ++ 32 ∷ (b ++ 32 ∷ c)) first ∙ ap (λ w. decimal f ++ 32 ∷ (w ++ 32 ∷ c)) second ∙ ap (λ w. decimal f ++ 32 ∷ (decimal n ++ 32 ∷ w)) third),
 )
 fail_after t f n fits first low second (inr none) = (None, no_fail_after t none)
 
@@ -205,7 +205,7 @@ read_arguments : (v : Verb) (rest : List ℕ) → Arguments v rest
 read_arguments verb.Open rest = elim (below rest (2 ^ 32) (omega arith)) [ inl (n, lt, e) ↦ (Some (line.Open n), (lt, refl, e)) | inr none ↦ (None, no_open none) ]
 read_arguments verb.Pin rest = elim (below rest (2 ^ 32) (omega arith)) [ inl (n, lt, e) ↦ (Some (line.Pin n), (lt, refl, e)) | inr none ↦ (None, no_pin none) ]
 read_arguments verb.Lack rest = elim (session_iri rest) [ inl (n, i, is) ↦ (Some (line.Lack n i), ((is.fits, is.word), refl, is.spelled)) | inr none ↦ (None, no_lack none) ]
-read_arguments verb.Give rest = elim (given rest) [ inl (f, l, m, is) ↦ (Some (line.Give f l m), ((is.fits, (is.short, is.word)), refl, is.spelled)) | inr none ↦ (None, no_give none) ]
+read_arguments verb.Give rest = elim (given rest) [ inl (f, l, m, is) ↦ (Some (line.Give f l m), ((is.fits, is.short, is.word), refl, is.spelled)) | inr none ↦ (None, no_give none) ]
 read_arguments verb.Fail rest = fail_words rest
 read_arguments verb.Lapse rest = elim (below rest (2 ^ 32) (omega arith)) [ inl (n, lt, e) ↦ (Some (line.Lapse n), (lt, refl, e)) | inr none ↦ (None, no_lapse none) ]
 read_arguments verb.Evict rest = elim (session_iri rest) [ inl (n, i, is) ↦ (Some (line.Evict n i), ((is.fits, is.word), refl, is.spelled)) | inr none ↦ (None, no_evict none) ]
@@ -219,16 +219,43 @@ Named word = (v : Option Verb) × IsVerb word v
 
 named : (word : List ℕ) → Named word
 named word =
-    elim (same_or_not word (name verb.Open)) [ inl e ↦ (Some verb.Open, e) | inr a ↦
-    elim (same_or_not word (name verb.Pin)) [ inl e ↦ (Some verb.Pin, e) | inr b ↦
-    elim (same_or_not word (name verb.Lack)) [ inl e ↦ (Some verb.Lack, e) | inr c ↦
-    elim (same_or_not word (name verb.Give)) [ inl e ↦ (Some verb.Give, e) | inr d ↦
-    elim (same_or_not word (name verb.Fail)) [ inl e ↦ (Some verb.Fail, e) | inr f ↦
-    elim (same_or_not word (name verb.Lapse)) [ inl e ↦ (Some verb.Lapse, e) | inr g ↦
-    elim (same_or_not word (name verb.Evict)) [ inl e ↦ (Some verb.Evict, e) | inr h ↦
-    elim (same_or_not word (name verb.Revise)) [ inl e ↦ (Some verb.Revise, e) | inr i ↦
-    elim (same_or_not word (name verb.Answer)) [ inl e ↦ (Some verb.Answer, e) | inr j ↦
-    elim (same_or_not word (name verb.Close)) [ inl e ↦ (Some verb.Close, e) | inr k ↦ (None, unnamed word a b c d f g h i j k) ] ] ] ] ] ] ] ] ] ]
+    elim (same_or_not word (name verb.Open)) [
+      | inl e ↦ (Some verb.Open, e)
+      | inr a ↦
+          elim (same_or_not word (name verb.Pin)) [
+            | inl e ↦ (Some verb.Pin, e)
+            | inr b ↦
+                elim (same_or_not word (name verb.Lack)) [
+                  | inl e ↦ (Some verb.Lack, e)
+                  | inr c ↦
+                      elim (same_or_not word (name verb.Give)) [
+                        | inl e ↦ (Some verb.Give, e)
+                        | inr d ↦
+                            elim (same_or_not word (name verb.Fail)) [
+                              | inl e ↦ (Some verb.Fail, e)
+                              | inr f ↦
+                                  elim (same_or_not word (name verb.Lapse)) [
+                                    | inl e ↦ (Some verb.Lapse, e)
+                                    | inr g ↦
+                                        elim (same_or_not word (name verb.Evict)) [
+                                          | inl e ↦ (Some verb.Evict, e)
+                                          | inr h ↦
+                                              elim (same_or_not word (name verb.Revise)) [
+                                                | inl e ↦ (Some verb.Revise, e)
+                                                | inr i ↦
+                                                    elim (same_or_not word (name verb.Answer)) [
+                                                      | inl e ↦ (Some verb.Answer, e)
+                                                      | inr j ↦
+                                                          elim (same_or_not word (name verb.Close)) [ inl e ↦ (Some verb.Close, e) | inr k ↦ (None, unnamed word a b c d f g h i j k) ]
+                                                    ]
+                                              ]
+                                        ]
+                                  ]
+                            ]
+                      ]
+                ]
+          ]
+    ]
   where
     unnamed : (w : List ℕ) → (w ≡ name verb.Open → ⊥) → (w ≡ name verb.Pin → ⊥) → (w ≡ name verb.Lack → ⊥) → (w ≡ name verb.Give → ⊥) → (w ≡ name verb.Fail → ⊥)
         → (w ≡ name verb.Lapse → ⊥) → (w ≡ name verb.Evict → ⊥) → (w ≡ name verb.Revise → ⊥) → (w ≡ name verb.Answer → ⊥) → (w ≡ name verb.Close → ⊥) → (v : Verb) → w ≡ name v → ⊥
