@@ -42,4 +42,5 @@ pub mod Overtold
 pub mod StepLack
 pub mod StepEvict
 pub mod KeptStep
+pub mod Readied
 pub mod NextGoes

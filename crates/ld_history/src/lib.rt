@@ -11,6 +11,7 @@
 //! Leading, Order, Choices and Plans are the code's own: the tables, and what the code plans.
 #![tactic(auto)]
 
+mod ahead;
 mod answers;
 mod changes;
 mod choices;
@@ -36,6 +37,7 @@ mod state;
 mod steps;
 mod tables;
 
+pub use ahead::room_is_promised;
 pub use answers::{
     EvictAnswer, LackAnswer, OpenAnswer, Out, PinAnswer, PublishAnswer, ReviseAnswer,
 };
