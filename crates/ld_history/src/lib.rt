@@ -3,12 +3,13 @@
 //!
 //! Make a `State`, and call its steps (`open_session`, `pin`, `lack`, `publish`, `fail`, `lapse`, `answer`,
 //! `evict`, `revise`, `close_session`), each of which finds its case and appends an entry or two, or `step`,
-//! which appends an entry that is given. `State::entries` and `State::limits` are all that a state is seen as.
+//! which appends an entry that is given. `fail`, `lapse`, `answer` and `close_session` take no memory and refuse
+//! nothing: ask `may_fail` and the like first. `State::entry` and `State::limits` show all that a state is seen as.
 //! The laws of every legal history are `versions_rise`, `flights_are_single` and the others beside them.
 //!
 //! Of `specs/`, to be believed are Store, Turns, Words, Rules, After and Legal (which histories are legal),
-//! Steps (what a step answers and appends) and Counts and Laws (what the laws say). Seen, Holders, Index,
-//! Leading, Order, Choices and Plans are the code's own: the tables, and what the code plans.
+//! Steps (what a step answers and appends) and Counts, Ahead and Laws (what the laws say). Seen, Ready, Holders,
+//! Index, Leading, Order, Choices and Plans are the code's own: the tables, and what the code plans.
 #![tactic(auto)]
 
 mod ahead;

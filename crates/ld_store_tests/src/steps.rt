@@ -133,6 +133,10 @@ fn a_session_loads_revises_and_evicts(rt: HostRuntime) {
     let same = state.publish(alloc, 2, given(&rt, alloc, "x", 3));
     assert_eq!(rt; same, Ok(PublishAnswer::Same));
     assert!(rt; matches!(state.outcome(1), Some(How::Same)));
+    let name = state
+        .name(alloc, iri(&rt, alloc, "x"))
+        .expect(&rt, "memory");
+    assert_eq!(rt; name.as_iri().as_str(), "x");
     answers(&rt, &mut state, 1, 2);
     pins(&rt, alloc, &mut state, 1, (3, 1, 1));
     let evicted = state.evict(alloc, 1, iri(&rt, alloc, "x"));
