@@ -80,9 +80,9 @@ module _ (limits : Limits) (small : limits.held ≤ 64) (store : Store) (h : Cre
   pinned_busy s pinned e = cc
 
   -- an entry of a request under way is paid from what it may still append
-  paid : (n : ℕ) (s t : Session) (is : at_number store.sessions n ≡ Some s) → (s.last ≡ last.Idle → ⊥) → (count : ℕ) → Spends store.flights s.last (length s.held) count
-      → (suc (left t (count + 1)) ≤ left s count) ⊎ ((left t (count + 1) ≤ 319) × Takes limits store s)
-  paid n s t is busy count sp = inl (pays_one s t count (busy_asked s.last busy) (spends-most store.flights s.last (length s.held) count (few n s is) sp))
+  paid : (event : Event (List ℕ)) (n : ℕ) (s t : Session) (is : at_number store.sessions n ≡ Some s) → (s.last ≡ last.Idle → ⊥) → (count : ℕ) → Spends store.flights s.last (length s.held) count
+      → (suc (left t (count + 1)) ≤ left s count) ⊎ ((left t (count + 1) ≤ 319) × Takes limits store s event)
+  paid event n s t is busy count sp = inl (pays_one s t count (busy_asked s.last busy) (spends-most store.flights s.last (length s.held) count (few n s is) sp))
 
   more_held : (xs : List (List ℕ)) (iri : List ℕ) → length (xs ++ iri ∷ []) ≡ length xs + 1
   more_held xs iri = length-append xs (iri ∷ [])
@@ -103,7 +103,14 @@ module _ (limits : Limits) (small : limits.held ≤ 64) (store : Store) (h : Cre
         follows = λ iris count f busy. (ap (λ b. if b then [] else iris) one ∙ sym none, (ap (λ b. if b then 1 else count + 1) one ∙ sym b.first));
         rests = λ e. cc;
         pays = λ count sp. let e : (if attempt == 1 then 1 else count + 1) ≡ 1 = ap (λ b. if b then 1 else count + 1) one in
-            inr (omega (arith, e), record { nothing = ap (λ l. not (is_idle l)) b.idle; room = b.room });
+            inr (
+              omega (arith, e),
+              record {
+                nothing = ap (λ l. not (is_idle l)) b.idle;
+                rises = ap (λ b. if b then 320 else 0) one;
+                room = b.room;
+              },
+            );
       }
 
   pin_goes_on : (session request attempt version : ℕ) (p : Pins limits store session request attempt version) → GoesOn store request attempt p.s
@@ -125,8 +132,8 @@ module _ (limits : Limits) (small : limits.held ≤ 64) (store : Store) (h : Cre
         rests = λ e. cc;
         pays = λ count sp. let e : (if attempt == 1 then 1 else count + 1) ≡ count + 1 = ap (λ b. if b then 1 else count + 1) later in
             subst (λ k. (suc (left (record p.s { request = request; attempt = attempt; version = version; last = last.Pinned }) k) ≤ left p.s count)
-            ⊎ ((left (record p.s { request = request; attempt = attempt; version = version; last = last.Pinned }) k ≤ 319) × Takes limits store p.s)) (sym e)
-            (paid session p.s (record p.s { request = request; attempt = attempt; version = version; last = last.Pinned }) p.is busy count sp);
+            ⊎ ((left (record p.s { request = request; attempt = attempt; version = version; last = last.Pinned }) k ≤ 319) × Takes limits store p.s (event.Pinned session request attempt version))) (sym e)
+            (paid (event.Pinned session request attempt version) session p.s (record p.s { request = request; attempt = attempt; version = version; last = last.Pinned }) p.is busy count sp);
       }
 
   pin_either : (session request attempt version : ℕ) (p : Pins limits store session request attempt version) → Begins limits store request attempt p.s ⊎ GoesOn store request attempt p.s
@@ -149,7 +156,7 @@ module _ (limits : Limits) (small : limits.held ≤ 64) (store : Store) (h : Cre
     spends = λ count sp. omega (arith, pinned_spends session p.s p.is p.pinned count sp, more_held p.s.held iri);
     follows = λ iris count f still. let known = f (pinned_busy p.s p.pinned) in (ap (λ l. l ++ iri ∷ []) known.0, known.1);
     rests = λ e. cc;
-    pays = paid session p.s (record p.s { held = p.s.held ++ iri ∷ []; last = last.Found }) p.is (pinned_busy p.s p.pinned);
+    pays = paid (event.Found session iri) session p.s (record p.s { held = p.s.held ++ iri ∷ []; last = last.Found }) p.is (pinned_busy p.s p.pinned);
   }
 
   -- ---- 5 Joined
@@ -163,7 +170,7 @@ module _ (limits : Limits) (small : limits.held ≤ 64) (store : Store) (h : Cre
     spends = λ count sp. omega (arith, pinned_spends session p.s p.is p.pinned count sp, more_held p.s.held iri);
     follows = λ iris count f still. let known = f (pinned_busy p.s p.pinned) in (ap (λ l. l ++ iri ∷ []) known.0, known.1);
     rests = λ e. cc;
-    pays = paid session p.s (record p.s { held = p.s.held ++ iri ∷ []; last = last.Joined flight }) p.is (pinned_busy p.s p.pinned);
+    pays = paid (event.Joined session iri flight) session p.s (record p.s { held = p.s.held ++ iri ∷ []; last = last.Joined flight }) p.is (pinned_busy p.s p.pinned);
   }
 
   -- ---- 4 Led
@@ -190,7 +197,7 @@ module _ (limits : Limits) (small : limits.held ≤ 64) (store : Store) (h : Cre
       );
       follows = λ iris count f still. let known = f (ready_busy p.ready) in (ap (λ l. l ++ iri ∷ []) known.0, known.1);
       rests = λ e. cc;
-      pays = paid session p.s (record p.s { held = p.s.held ++ iri ∷ []; last = last.Led flight }) p.is (ready_busy p.ready);
+      pays = paid (event.Led session iri flight) session p.s (record p.s { held = p.s.held ++ iri ∷ []; last = last.Led flight }) p.is (ready_busy p.ready);
     }
 
   -- ---- 9 Evicted
@@ -204,7 +211,7 @@ module _ (limits : Limits) (small : limits.held ≤ 64) (store : Store) (h : Cre
     spends = λ count sp. omega (arith, pinned_spends session p.s p.is p.pinned count sp);
     follows = λ iris count f still. f (pinned_busy p.s p.pinned);
     rests = λ e. cc;
-    pays = paid session p.s (record p.s { last = last.Evicted version }) p.is (pinned_busy p.s p.pinned);
+    pays = paid (event.Evicted session iri version) session p.s (record p.s { last = last.Evicted version }) p.is (pinned_busy p.s p.pinned);
   }
 
   -- ---- 10 ReviseLed
@@ -222,7 +229,7 @@ module _ (limits : Limits) (small : limits.held ≤ 64) (store : Store) (h : Cre
     );
     follows = λ iris count f still. f (pinned_busy p.s p.pinned);
     rests = λ e. cc;
-    pays = paid session p.s (record p.s { last = last.ReviseLed flight }) p.is (pinned_busy p.s p.pinned);
+    pays = paid (event.ReviseLed session iri flight) session p.s (record p.s { last = last.ReviseLed flight }) p.is (pinned_busy p.s p.pinned);
   }
 
   -- ---- 12 Answered
@@ -236,7 +243,7 @@ module _ (limits : Limits) (small : limits.held ≤ 64) (store : Store) (h : Cre
     spends = λ count sp. omega (arith, spends-busy store.flights p.s.last (length p.s.held) count (few session p.s p.is) (asked_busy p.s p.asked) sp);
     follows = λ iris count f busy. absurd (busy refl);
     rests = λ e iris count. (refl, refl);
-    pays = paid session p.s (record p.s { held = []; last = last.Idle }) p.is (asked_busy p.s p.asked);
+    pays = paid (event.Answered session request how) session p.s (record p.s { held = []; last = last.Idle }) p.is (asked_busy p.s p.asked);
   }
 
   -- ---- a flight ends
@@ -261,6 +268,6 @@ module _ (limits : Limits) (small : limits.held ≤ 64) (store : Store) (h : Cre
               (subst (λ fs. Spends fs w.0.last (length w.0.held) (count + 1)) (sym flights) (spends-own store.flights flight p.f how p.is p.flying over w.0.last (length w.0.held) count w.2 sp));
           follows = λ iris count f busy. (lacks iris ∙ (f busy).0, tries count ∙ (f busy).1);
           rests = λ e iris count. (lacks iris, tries count);
-          pays = λ count sp. subst (λ k. (suc (left w.0 k) ≤ left w.0 count) ⊎ ((left w.0 k ≤ 319) × Takes limits store w.0)) (sym (grows count))
-              (paid p.f.session w.0 w.0 w.1 (leading_busy w.0.last flight w.2) count sp);
+          pays = λ count sp. subst (λ k. (suc (left w.0 k) ≤ left w.0 count) ⊎ ((left w.0 k ≤ 319) × Takes limits store w.0 event)) (sym (grows count))
+              (paid event p.f.session w.0 w.0 w.1 (leading_busy w.0.last flight w.2) count sp);
         }

@@ -48,4 +48,6 @@ pub mod Overtold
 pub mod StepLack
 pub mod StepEvict
 pub mod KeptStep
+pub mod Readied
+pub mod Answering
 pub mod NextGoes

@@ -6,6 +6,8 @@ pub mod After
 pub mod Legal
 pub mod Seen
 pub mod Counts
+pub mod Ahead
+pub mod Ready
 pub mod Holders
 pub mod Index
 pub mod Leading

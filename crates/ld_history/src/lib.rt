@@ -3,16 +3,18 @@
 //!
 //! Make a `State`, and call its steps (`open_session`, `pin`, `lack`, `publish`, `fail`, `lapse`, `answer`,
 //! `evict`, `revise`, `close_session`), each of which finds its case and appends an entry or two, or `step`,
-//! which appends an entry that is given. `State::entries` and `State::limits` are all that a state is seen as.
+//! which appends an entry that is given. `fail`, `lapse`, `answer` and `close_session` take no memory and refuse
+//! nothing: ask `may_fail` and the like first. `State::entry` and `State::limits` show all that a state is seen as.
 //! The laws of every legal history are `versions_rise`, `stocks_are_told` and the others beside them.
 //!
 //! Of `specs/`, to be believed are Store, Words, Rules, After and Legal (which histories are legal, and what
-//! a version's stock is), Steps (what a step answers and appends), Seats (whose an entry is), and Counts and
+//! a version's stock is), Steps (what a step answers and appends), Seats (whose an entry is), and Counts, Ahead and
 //! Laws (what the laws say). The code's own are Turns and ByTurns (how it tells what a version had), Seen,
-//! Holders, Index, Leading and Order (its tables), Choices and Plans (what it plans). SeatsStay is a lemma
+//! Ready, Holders, Index, Leading and Order (its tables), Choices and Plans (what it plans). SeatsStay is a lemma
 //! for crates above.
 #![tactic(auto)]
 
+mod ahead;
 mod answers;
 mod changes;
 mod choices;
@@ -41,6 +43,7 @@ mod steps;
 mod stock_laws;
 mod tables;
 
+pub use ahead::room_is_promised;
 pub use answers::{
     EvictAnswer, LackAnswer, OpenAnswer, Out, PinAnswer, PublishAnswer, ReviseAnswer,
 };

@@ -56,7 +56,6 @@ fn replace(alloc: Global, state: &mut State, r: Replacement) -> Result<(), NoMem
     ensures appended { OnOk result (state.new ≡ record state.old { entries = state.old.entries ++ plain (goes_out r) ∷ plain (comes_in r) ∷ [] }) }
     ensures unchanged { OnErr result (state.new ≡ state.old) }
 {
-    state.history.reserve(2)?;
     state.tables.replace(alloc, &r)?;
     let Replacement {
         session,
@@ -75,7 +74,7 @@ fn replace(alloc: Global, state: &mut State, r: Replacement) -> Result<(), NoMem
         iri,
         flight,
     };
-    state.history.push(plain(gone))?;
-    state.history.push(plain(led))?;
+    state.history.push(plain(gone));
+    state.history.push(plain(led));
     Ok(())
 }

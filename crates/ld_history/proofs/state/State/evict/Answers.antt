@@ -16,7 +16,7 @@ use Rattle.ld_history.proofs.KeptStep.{taken_allowed}
 use Rattle.ld_history.proofs.state.State.evict.Goals as goal
 
 pub evicting-requires : goal.evicting-requires
-evicting-requires c = can_count c.self.inside.limits c.self.inside.history.items (seen c.self.inside.tables) c.self.invariant
+evicting-requires c = can_count c.self.inside.limits c.self.inside.history.items (seen c.self.inside.tables) c.self.invariant.kept
 
 pub append-requires : goal.append-requires
 append-requires c =
@@ -25,8 +25,8 @@ append-requires c =
     let iri = c.in_ok-iri.iri in
     let plan = evict_plan.One c.in-One.answer c.in-One.event in
     let is : evict_found (seen s.tables) session iri ≡ Some (evict_taken session iri plan) = sym c.evicting.ensures ∙ ap (option_map (evict_taken session iri)) (c.in-Some.is ∙ ap (λ (p : EvictPlan). Some p) c.in-One.is) in
-    let ok = taken_allowed s.limits s.history.items (seen s.tables) c.self.invariant (λ (x : Store). evict_found x session iri) (evict_taken session iri plan)
-    (evict_allowed s.limits s.history.items c.self.invariant.legal session iri) is in
+    let ok = taken_allowed s.limits s.history.items (seen s.tables) c.self.invariant.kept (λ (x : Store). evict_found x session iri) (evict_taken session iri plan)
+    (evict_allowed s.limits s.history.items c.self.invariant.kept.legal session iri) is in
     ap (allows c.args.self.now.limits (state c.args.self.now.entries)) c.plain.ensures ∙ subst (λ (h : History). allows h.limits (state h.entries) (plain c.in-One.event) ≡ true) c.self.view_is ok.0
 
 pub evict-requires-clause-out : goal.evict-requires-clause-out
@@ -36,8 +36,8 @@ evict-requires-clause-out c =
     let iri = c.in_ok-iri.iri in
     let plan = evict_plan.Evict c.in-Evict.request c.in-Evict.version in
     let is : evict_found (seen s.tables) session iri ≡ Some (evict_taken session iri plan) = sym c.evicting.ensures ∙ ap (option_map (evict_taken session iri)) (c.in-Some.is ∙ ap (λ (p : EvictPlan). Some p) c.in-Evict.is) in
-    let ok = taken_allowed s.limits s.history.items (seen s.tables) c.self.invariant (λ (x : Store). evict_found x session iri) (evict_taken session iri plan)
-    (evict_allowed s.limits s.history.items c.self.invariant.legal session iri) is in
+    let ok = taken_allowed s.limits s.history.items (seen s.tables) c.self.invariant.kept (λ (x : Store). evict_found x session iri) (evict_taken session iri plan)
+    (evict_allowed s.limits s.history.items c.self.invariant.kept.legal session iri) is in
     subst (λ (h : History). allows h.limits (state h.entries) (plain (event.Evicted session iri c.in-Evict.version)) ≡ true) c.self.view_is ok.0
 
 pub evict-requires-clause-told : goal.evict-requires-clause-told
@@ -47,6 +47,6 @@ evict-requires-clause-told c =
     let iri = c.in_ok-iri.iri in
     let plan = evict_plan.Evict c.in-Evict.request c.in-Evict.version in
     let is : evict_found (seen s.tables) session iri ≡ Some (evict_taken session iri plan) = sym c.evicting.ensures ∙ ap (option_map (evict_taken session iri)) (c.in-Some.is ∙ ap (λ (p : EvictPlan). Some p) c.in-Evict.is) in
-    let ok = taken_allowed s.limits s.history.items (seen s.tables) c.self.invariant (λ (x : Store). evict_found x session iri) (evict_taken session iri plan)
-    (evict_allowed s.limits s.history.items c.self.invariant.legal session iri) is in
+    let ok = taken_allowed s.limits s.history.items (seen s.tables) c.self.invariant.kept (λ (x : Store). evict_found x session iri) (evict_taken session iri plan)
+    (evict_allowed s.limits s.history.items c.self.invariant.kept.legal session iri) is in
     subst (λ (h : History). allows h.limits (after (state h.entries) (plain (event.Evicted session iri c.in-Evict.version))) (plain (told_out session c.in-Evict.request c.in-Evict.version)) ≡ true) c.self.view_is ok.1.0

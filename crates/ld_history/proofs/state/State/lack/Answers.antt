@@ -17,10 +17,10 @@ use Rattle.ld_history.proofs.LawTold.{lack_kept}
 use Rattle.ld_history.proofs.state.State.lack.Goals as goal
 
 pub lacking-requires-clause-few : goal.lacking-requires-clause-few
-lacking-requires-clause-few c = few_held c.self.inside.limits c.self.inside.history.items (seen c.self.inside.tables) c.self.invariant
+lacking-requires-clause-few c = few_held c.self.inside.limits c.self.inside.history.items (seen c.self.inside.tables) c.self.invariant.kept
 
 pub lacking-requires-clause-count : goal.lacking-requires-clause-count
-lacking-requires-clause-count c = can_count c.self.inside.limits c.self.inside.history.items (seen c.self.inside.tables) c.self.invariant
+lacking-requires-clause-count c = can_count c.self.inside.limits c.self.inside.history.items (seen c.self.inside.tables) c.self.invariant.kept
 
 pub append-requires : goal.append-requires
 append-requires c =
@@ -29,8 +29,8 @@ append-requires c =
     let iri = c.in_ok-iri.iri in
     let plan = lack_plan.One c.in-One.answer c.in-One.event in
     let is : lack_found s.limits (seen s.tables) session iri ≡ Some (lack_planned plan) = sym c.in_ok-plan.ensures ∙ ap (option_map lack_planned) (c.in-Some.is ∙ ap (λ (p : LackPlan). Some p) c.in-One.is) in
-    let ok = taken_allowed s.limits s.history.items (seen s.tables) c.self.invariant (λ (x : Store). lack_found s.limits x session iri) (lack_planned plan)
-    (lack_allowed s.limits s.history.items c.self.invariant.legal session iri) is in
+    let ok = taken_allowed s.limits s.history.items (seen s.tables) c.self.invariant.kept (λ (x : Store). lack_found s.limits x session iri) (lack_planned plan)
+    (lack_allowed s.limits s.history.items c.self.invariant.kept.legal session iri) is in
     ap (allows c.args.self.now.limits (state c.args.self.now.entries)) c.plain.ensures ∙ subst (λ (h : History). allows h.limits (state h.entries) (plain c.in-One.event) ≡ true) c.self.view_is ok.0
 
 pub replace-requires-clause-out : goal.replace-requires-clause-out
@@ -40,8 +40,8 @@ replace-requires-clause-out c =
     let iri = c.in_ok-iri.iri in
     let plan = lack_plan.Replace c.in-Replace.r in
     let is : lack_found s.limits (seen s.tables) session iri ≡ Some (lack_planned plan) = sym c.in_ok-plan.ensures ∙ ap (option_map lack_planned) (c.in-Some.is ∙ ap (λ (p : LackPlan). Some p) c.in-Replace.is) in
-    let ok = taken_allowed s.limits s.history.items (seen s.tables) c.self.invariant (λ (x : Store). lack_found s.limits x session iri) (lack_planned plan)
-    (lack_allowed s.limits s.history.items c.self.invariant.legal session iri) is in
+    let ok = taken_allowed s.limits s.history.items (seen s.tables) c.self.invariant.kept (λ (x : Store). lack_found s.limits x session iri) (lack_planned plan)
+    (lack_allowed s.limits s.history.items c.self.invariant.kept.legal session iri) is in
     subst (λ (h : History). allows h.limits (state h.entries) (plain (goes_out c.in-Replace.r)) ≡ true) c.self.view_is ok.0
 
 pub replace-requires-clause-led : goal.replace-requires-clause-led
@@ -51,8 +51,8 @@ replace-requires-clause-led c =
     let iri = c.in_ok-iri.iri in
     let plan = lack_plan.Replace c.in-Replace.r in
     let is : lack_found s.limits (seen s.tables) session iri ≡ Some (lack_planned plan) = sym c.in_ok-plan.ensures ∙ ap (option_map lack_planned) (c.in-Some.is ∙ ap (λ (p : LackPlan). Some p) c.in-Replace.is) in
-    let ok = taken_allowed s.limits s.history.items (seen s.tables) c.self.invariant (λ (x : Store). lack_found s.limits x session iri) (lack_planned plan)
-    (lack_allowed s.limits s.history.items c.self.invariant.legal session iri) is in
+    let ok = taken_allowed s.limits s.history.items (seen s.tables) c.self.invariant.kept (λ (x : Store). lack_found s.limits x session iri) (lack_planned plan)
+    (lack_allowed s.limits s.history.items c.self.invariant.kept.legal session iri) is in
     subst (λ (h : History). allows h.limits (after (state h.entries) (plain (goes_out c.in-Replace.r))) (plain (comes_in c.in-Replace.r)) ≡ true) c.self.view_is ok.1.0
 
 pub returns-in_default-clause-refused : goal.returns-in_default-clause-refused
@@ -61,7 +61,7 @@ returns-in_default-clause-refused c _ =
     let session = c.args.session in
     let iri = c.in_ok-iri.iri in
     let same : lack_step c.args.self.now c.args.session c.args.iri ≡ lack_found s.limits (seen s.tables) session iri
-    = ap (λ iri. lack_step c.args.self.now c.args.session iri) (sym c.in_ok-iri.ensures) ∙ lack_kept s.limits s.history.items (seen s.tables) c.args.self.now c.self.invariant c.self.view_is session iri in
+    = ap (λ iri. lack_step c.args.self.now c.args.session iri) (sym c.in_ok-iri.ensures) ∙ lack_kept s.limits s.history.items (seen s.tables) c.args.self.now c.self.invariant.kept c.self.view_is session iri in
     same ∙ sym c.in_ok-plan.ensures ∙ ap (option_map lack_planned) c.in_default.is
 
 pub returns-in-One-clause-answered : goal.returns-in-One-clause-answered
@@ -72,7 +72,7 @@ returns-in-One-clause-answered c =
     let plan = lack_plan.One c.in-One.answer c.in-One.event in
     let is : lack_found s.limits (seen s.tables) session iri ≡ Some (lack_planned plan) = sym c.in_ok-plan.ensures ∙ ap (option_map lack_planned) (c.in-Some.is ∙ ap (λ (p : LackPlan). Some p) c.in-One.is) in
     let same : lack_step c.args.self.now c.args.session c.args.iri ≡ lack_found s.limits (seen s.tables) session iri
-    = ap (λ iri. lack_step c.args.self.now c.args.session iri) (sym c.in_ok-iri.ensures) ∙ lack_kept s.limits s.history.items (seen s.tables) c.args.self.now c.self.invariant c.self.view_is session iri in
+    = ap (λ iri. lack_step c.args.self.now c.args.session iri) (sym c.in_ok-iri.ensures) ∙ lack_kept s.limits s.history.items (seen s.tables) c.args.self.now c.self.invariant.kept c.self.view_is session iri in
     ap (option_map (λ t. t.answer)) (same ∙ is)
 
 pub returns-in-One-clause-appended : goal.returns-in-One-clause-appended
@@ -83,7 +83,7 @@ returns-in-One-clause-appended c =
     let plan = lack_plan.One c.in-One.answer c.in-One.event in
     let is : lack_found s.limits (seen s.tables) session iri ≡ Some (lack_planned plan) = sym c.in_ok-plan.ensures ∙ ap (option_map lack_planned) (c.in-Some.is ∙ ap (λ (p : LackPlan). Some p) c.in-One.is) in
     let same : lack_step c.args.self.now c.args.session c.args.iri ≡ lack_found s.limits (seen s.tables) session iri
-    = ap (λ iri. lack_step c.args.self.now c.args.session iri) (sym c.in_ok-iri.ensures) ∙ lack_kept s.limits s.history.items (seen s.tables) c.args.self.now c.self.invariant c.self.view_is session iri in
+    = ap (λ iri. lack_step c.args.self.now c.args.session iri) (sym c.in_ok-iri.ensures) ∙ lack_kept s.limits s.history.items (seen s.tables) c.args.self.now c.self.invariant.kept c.self.view_is session iri in
     c.in_ok-append-in-One.ensures.appended ∙ ap (λ e. record c.args.self.now { entries = c.args.self.now.entries ++ e ∷ [] }) c.plain.ensures ∙ sym (ap (grown c.args.self.now) (same ∙ is))
 
 pub returns-clause-answered : goal.returns-clause-answered
@@ -94,7 +94,7 @@ returns-clause-answered c =
     let plan = lack_plan.Replace c.in-Replace.r in
     let is : lack_found s.limits (seen s.tables) session iri ≡ Some (lack_planned plan) = sym c.in_ok-plan.ensures ∙ ap (option_map lack_planned) (c.in-Some.is ∙ ap (λ (p : LackPlan). Some p) c.in-Replace.is) in
     let same : lack_step c.args.self.now c.args.session c.args.iri ≡ lack_found s.limits (seen s.tables) session iri
-    = ap (λ iri. lack_step c.args.self.now c.args.session iri) (sym c.in_ok-iri.ensures) ∙ lack_kept s.limits s.history.items (seen s.tables) c.args.self.now c.self.invariant c.self.view_is session iri in
+    = ap (λ iri. lack_step c.args.self.now c.args.session iri) (sym c.in_ok-iri.ensures) ∙ lack_kept s.limits s.history.items (seen s.tables) c.args.self.now c.self.invariant.kept c.self.view_is session iri in
     ap (option_map (λ t. t.answer)) (same ∙ is)
     ∙ ap (λ out. Some (lack_answer.Led c.in-Replace.r.flight (Some (record { iri = out; version = c.in-Replace.r.version })))) (sym c.in_ok-share-in-Replace.ensures)
 
@@ -106,5 +106,5 @@ returns-clause-appended c =
     let plan = lack_plan.Replace c.in-Replace.r in
     let is : lack_found s.limits (seen s.tables) session iri ≡ Some (lack_planned plan) = sym c.in_ok-plan.ensures ∙ ap (option_map lack_planned) (c.in-Some.is ∙ ap (λ (p : LackPlan). Some p) c.in-Replace.is) in
     let same : lack_step c.args.self.now c.args.session c.args.iri ≡ lack_found s.limits (seen s.tables) session iri
-    = ap (λ iri. lack_step c.args.self.now c.args.session iri) (sym c.in_ok-iri.ensures) ∙ lack_kept s.limits s.history.items (seen s.tables) c.args.self.now c.self.invariant c.self.view_is session iri in
+    = ap (λ iri. lack_step c.args.self.now c.args.session iri) (sym c.in_ok-iri.ensures) ∙ lack_kept s.limits s.history.items (seen s.tables) c.args.self.now c.self.invariant.kept c.self.view_is session iri in
     c.in_ok-replace-in-Replace.ensures.appended ∙ sym (ap (grown c.args.self.now) (same ∙ is))
