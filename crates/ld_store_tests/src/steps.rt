@@ -1,7 +1,7 @@
 ghost use Rattle.ld_history.specs.Legal.{AreWithin};
 
 use ld_history::{
-    EvictAnswer, Given, How, LackAnswer, Limits, OpenAnswer, PinAnswer, PublishAnswer,
+    End, EvictAnswer, Given, How, LackAnswer, Limits, OpenAnswer, PinAnswer, PublishAnswer,
     ReviseAnswer, State, StepRefusal,
 };
 use ld_tree::{Iri, Items, Text};
@@ -154,13 +154,21 @@ fn flights_fail_and_lapse(rt: HostRuntime) {
     pins(&rt, alloc, &mut state, 1, (1, 1, 0));
     assert!(rt; leads(&rt, alloc, &mut state, 1, "x", 1).is_none());
     assert!(rt; state.outcome(1).is_none());
-    fails(&rt, &mut state, 1, 0, 1);
+    assert_eq!(rt; state.end_of(1), Some(End::UnderWay));
+    fails(&rt, &mut state, 1, 3, 5);
+    let failed = End::Failed {
+        before: 3,
+        after: 5,
+    };
+    assert_eq!(rt; state.end_of(1), Some(failed));
     assert!(rt; matches!(state.outcome(1), Some(How::LoadFault { flight: 1 })));
     answers(&rt, &mut state, 1, 1);
     pins(&rt, alloc, &mut state, 1, (2, 1, 0));
     assert!(rt; leads(&rt, alloc, &mut state, 1, "x", 2).is_none());
     lapses(&rt, &mut state, 2);
     assert!(rt; !state.may_lapse(2));
+    assert_eq!(rt; state.end_of(2), Some(End::Lapsed));
+    assert_eq!(rt; state.end_of(3), None);
     answers(&rt, &mut state, 1, 2);
     assert_eq!(rt; state.pin(alloc, 2), Err(StepRefusal::NotAllowed));
 }
