@@ -1,4 +1,4 @@
-"""Times of the processor."""
+"""Times of the processor, and memory."""
 
 import os
 import subprocess
@@ -17,3 +17,12 @@ def best(command, stdin="/dev/null", runs=RUNS):
             raise SystemExit(f"{command[0]} ended with wait status {status}")
         times.append(used.ru_utime + used.ru_stime)
     return min(times)
+
+
+def most_memory(command):
+    """The most memory that one run has, in bytes."""
+    child = subprocess.Popen(command, stdin=subprocess.DEVNULL, stdout=subprocess.DEVNULL)
+    _, status, used = os.wait4(child.pid, 0)
+    if status != 0:
+        raise SystemExit(f"{command[0]} ended with wait status {status}")
+    return used.ru_maxrss * 1024

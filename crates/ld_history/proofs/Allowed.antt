@@ -11,7 +11,8 @@ use Rattle.ld_history.specs.Words.{at_number, at_iri, flight_at, is_under_way, i
 use Rattle.ld_history.specs.declared.event.Event.{Event}
 use Rattle.ld_history.specs.After.{ReliesOn}
 use Rattle.ld_history.proofs.LawReads.{read_open}
-use Rattle.ld_history.specs.Rules.{allows_given, made_place, lacks, has_place, is_next_version}
+use Rattle.ld_history.specs.Rules.{place_was_made, has_place, is_next_version}
+use Rattle.ld_history.specs.ByTurns.{allows_given, lacks}
 
 left : (a b : Bool) → a && b ≡ true → a ≡ true
 left true b h = refl
@@ -37,7 +38,7 @@ fits limits store iri flight s lacking place small =
     omega arith
 
 led : (limits : Limits) (store : Store) (session : ℕ) (iri : List ℕ) (flight : ℕ) → limits.bytes ≤ 134217728 → (o : Option Session)
-    → is_some_and (λ s. (is_pinned s.last || made_place limits store session iri) && lacks limits store iri s && has_place limits store iri flight) o ≡ true
+    → is_some_and (λ s. (is_pinned s.last || place_was_made limits store session iri) && lacks limits store iri s && has_place limits store iri flight) o ≡ true
     → ReliesOn store (event.Led session iri flight)
 led limits store session iri flight small None h = cc
 led limits store session iri flight small (Some s) h =

@@ -14,10 +14,11 @@ use Rattle.ld_history.specs.declared.session.End.{End}
 use Rattle.ld_history.specs.declared.session.End.TheVariants as end
 use Rattle.ld_history.specs.Store.{Store}
 use Rattle.ld_history.specs.Words.{at_number, flight_at}
-use Rattle.ld_history.specs.Rules.{allows_alone, allows_with, allows_given, allows}
+use Rattle.ld_history.specs.Rules.{allows_with}
 use Rattle.ld_history.specs.After.{after, after_event, with_flight, changed, change_found, put_number, take_number, end_at, ended_as}
-use Rattle.ld_history.specs.Legal.{state, Legal}
-use Rattle.ld_history.specs.Counts.{Entries, makes_version}
+use Rattle.ld_history.specs.Legal.{state, Entries}
+use Rattle.ld_history.specs.Counts.{makes_version}
+use Rattle.ld_history.specs.ByTurns.{allows_alone, allows_given, allows, Legal}
 use Rattle.ld_history.proofs.LawAlong.{kept_along}
 use Rattle.ld_history.proofs.LawReads.{read_open, read_pin, Pins}
 use Rattle.ld_history.proofs.LawFlights.{number_cases, put_number_same, put_number_other, take_number_same, take_number_other}
@@ -161,7 +162,7 @@ module _ (limits : Limits) (store : Store) (sorted : IsStrictlySortedBy nat_cmp 
   grows-alone (event.Led session iri flight) ok = begins session _ _ _ refl refl refl (λ s. refl)
   grows-alone (event.Joined session iri flight) ok = told session _ (λ s. refl)
   grows-alone (event.Published flight version) ok = cc
-  grows-alone (event.Failed flight before after) ok = flown _ (flight_at store.flights flight) (λ f. ends _ flight end.Failed refl refl refl)
+  grows-alone (event.Failed flight before after) ok = flown _ (flight_at store.flights flight) (λ f. ends _ flight (end.Failed before after) refl refl refl)
   grows-alone (event.Lapsed flight) ok = flown _ (flight_at store.flights flight) (λ f. ends _ flight end.Lapsed refl refl refl)
   grows-alone (event.Evicted session iri version) ok = record {
     opened = omega (arith, h.opened);

@@ -37,7 +37,7 @@ find_some p (x ∷ xs) e is = elim (cases_Bool (p x)) [
 
 module _ (store : Store) (sorted : IsStrictlySortedBy nat_cmp (keys_of store.sessions)) (session : ℕ) where
   -- the least holder of an IRI holds it
-  least_holds : (iri : List ℕ) → is_least_holder store session iri ≡ true → (s : Session) × (at_number store.sessions session ≡ Some s) × (holds s iri ≡ true)
+  pub least_holds : (iri : List ℕ) → is_least_holder store session iri ≡ true → (s : Session) × (at_number store.sessions session ≡ Some s) × (holds s iri ≡ true)
   least_holds iri least = found (find (λ e. holds e.1 iri) store.sessions) refl least
     where
       found : (o : Option (ℕ × Session)) → find (λ e. holds e.1 iri) store.sessions ≡ o → is_some_and (λ holder. holder == session) (option_map (λ (e : ℕ × Session). e.0) o) ≡ true

@@ -23,7 +23,7 @@ use Rattle.ld_history.specs.declared.session.Session.{Session}
 use Rattle.ld_history.specs.declared.index.Index.{Index}
 use Rattle.ld_history.specs.Words.{at_number, at_iri, has_request, is_idle, is_some_and, same_iri, holds}
 use Rattle.ld_history.specs.After.{changed, change_found, put_number, take_number}
-use Rattle.ld_history.specs.Index.{IsIndex, seat_of, are_numbered}
+use Rattle.ld_history.specs.Index.{IsIndex, sits_at, are_numbered}
 use Rattle.ld_history.specs.Holders.{held_by, AreFilled, IsMarked, IsCleared, IsSame}
 use Rattle.ld_history.proofs.IndexHolders.{Set, other_iri, some_member}
 use Rattle.ld_history.proofs.LawReads.{some_and}
@@ -139,10 +139,10 @@ module _ (sessions : Sessions) (n : ℕ) (g : Session → Session) where
   ])
 
   module _ (seat_kept : (s : Session) → (g s).seat ≡ s.seat) (idle_free : (s : Session) → is_idle (g s).last ≡ true → (g s).held ≡ []) where
-    seat_after : (m : ℕ) → seat_of (changed sessions n g) m ≡ seat_of sessions m
-    seat_after m = change_either sessions n g (λ l. seat_of l m ≡ seat_of sessions m) (λ none. refl) (λ s is. elim (number_cases m n) [
-      | inl e ↦ ap (seat_of (set_value (is_at (nat_cmp n)) sessions (g s))) e ∙ ap (option_map (λ (x : Session). x.seat)) (set_number_same sessions n (g s) s is) ∙ ap Some (seat_kept s)
-          ∙ sym (ap (option_map (λ (x : Session). x.seat)) is) ∙ sym (ap (seat_of sessions) e)
+    seat_after : (m : ℕ) → sits_at (changed sessions n g) m ≡ sits_at sessions m
+    seat_after m = change_either sessions n g (λ l. sits_at l m ≡ sits_at sessions m) (λ none. refl) (λ s is. elim (number_cases m n) [
+      | inl e ↦ ap (sits_at (set_value (is_at (nat_cmp n)) sessions (g s))) e ∙ ap (option_map (λ (x : Session). x.seat)) (set_number_same sessions n (g s) s is) ∙ ap Some (seat_kept s)
+          ∙ sym (ap (option_map (λ (x : Session). x.seat)) is) ∙ sym (ap (sits_at sessions) e)
       | inr a ↦ ap (option_map (λ (x : Session). x.seat)) (set_number_other sessions n (g s) s is m a)
     ])
 
@@ -381,12 +381,12 @@ module _ (sessions : Sessions) (index : Index) (h : IsIndex sessions index) wher
     | inl any ↦
         let r = valued_place (λ (s : Session). s.seat == seat) sessions any in
         let at : at_number sessions r.1.0 ≡ Some r.1.1 = lookup_from_place (eq_by_cmp_equiv nat_cmp_total) sessions r.0 r.1.0 r.1.1 (IsDistinct-from_sorted nat_cmp (keys_of sessions) h.sorted) r.2 in
-        let sits : seat_of sessions r.1.0 ≡ Some seat = ap (option_map (λ (x : Session). x.seat)) at ∙ ap Some (eqb-true r.1.1.seat seat r.3) in
+        let sits : sits_at sessions r.1.0 ≡ Some seat = ap (option_map (λ (x : Session). x.seat)) at ∙ ap Some (eqb-true r.1.1.seat seat r.3) in
         ap is_some (h.seated r.1.0 seat sits) ∙ sym any
     | inr none ↦ free_is (at_number index.seats.entries seat) refl none ∙ sym none
   ]
     where
-      nobody : (n : ℕ) → seat_of sessions n ≡ Some seat → list_any (λ (s : Session). s.seat == seat) (values_of sessions) ≡ false → ⊥
+      nobody : (n : ℕ) → sits_at sessions n ≡ Some seat → list_any (λ (s : Session). s.seat == seat) (values_of sessions) ≡ false → ⊥
       nobody n = elim (at_number sessions n) as (λ o. at_number sessions n ≡ o → option_map (λ (x : Session). x.seat) o ≡ Some seat → list_any (λ (s : Session). s.seat == seat) (values_of sessions) ≡ false → ⊥) [
         | None ↦ λ is none any. cc
         | Some s ↦ λ is has none.
@@ -465,16 +465,16 @@ module _ (sessions : Sessions) (index : Index) (h : IsIndex sessions index) wher
     fresh : at_number sessions k ≡ None
     fresh = is_new opened k sessions next numbered
 
-    seat_here : seat_of (put_number sessions k x) k ≡ Some x.seat
+    seat_here : sits_at (put_number sessions k x) k ≡ Some x.seat
     seat_here = ap (option_map (λ (y : Session). y.seat)) (put_number_same sessions k x)
 
-    seat_there : (m : ℕ) → is_eq (nat_cmp m k) ≡ false → seat_of (put_number sessions k x) m ≡ seat_of sessions m
+    seat_there : (m : ℕ) → is_eq (nat_cmp m k) ≡ false → sits_at (put_number sessions k x) m ≡ sits_at sessions m
     seat_there m n = ap (option_map (λ (y : Session). y.seat)) (put_number_other sessions k x m n)
 
-    opened_seated : (m s : ℕ) → seat_of (put_number sessions k x) m ≡ Some s → at_number now.seats.entries s ≡ Some m
+    opened_seated : (m s : ℕ) → sits_at (put_number sessions k x) m ≡ Some s → at_number now.seats.entries s ≡ Some m
     opened_seated m s is = elim (number_cases m k) [
       | inl e ↦
-          let same : x.seat ≡ s = same_at x.seat s (seat_of (put_number sessions k x) k) seat_here (ap (seat_of (put_number sessions k x)) (sym e) ∙ is) in
+          let same : x.seat ≡ s = same_at x.seat s (sits_at (put_number sessions k x) k) seat_here (ap (sits_at (put_number sessions k x)) (sym e) ∙ is) in
           ap (at_number now.seats.entries) (sym same) ∙ put_here index.seats.entries now.seats.entries x.seat (Some k) put ∙ ap Some (sym e)
       | inr n ↦
           let old : at_number index.seats.entries s ≡ Some m = h.seated m s (sym (seat_there m n) ∙ is) in
@@ -484,15 +484,15 @@ module _ (sessions : Sessions) (index : Index) (h : IsIndex sessions index) wher
           ]
     ]
 
-    opened_sits : (s m : ℕ) → at_number now.seats.entries s ≡ Some m → seat_of (put_number sessions k x) m ≡ Some s
+    opened_sits : (s m : ℕ) → at_number now.seats.entries s ≡ Some m → sits_at (put_number sessions k x) m ≡ Some s
     opened_sits s m is = elim (number_cases x.seat s) [
       | inl e ↦
           let same : k ≡ m = same_at k m (at_number now.seats.entries x.seat) (put_here index.seats.entries now.seats.entries x.seat (Some k) put) (ap (at_number now.seats.entries) e ∙ is) in
-          ap (seat_of (put_number sessions k x)) (sym same) ∙ seat_here ∙ ap Some e
+          ap (sits_at (put_number sessions k x)) (sym same) ∙ seat_here ∙ ap Some e
       | inr a ↦
-          let old : seat_of sessions m ≡ Some s = h.sits s m (sym (put_there index.seats.entries now.seats.entries x.seat (Some k) put s a) ∙ is) in
+          let old : sits_at sessions m ≡ Some s = h.sits s m (sym (put_there index.seats.entries now.seats.entries x.seat (Some k) put s a) ∙ is) in
           elim (number_cases m k) [
-            | inl e ↦ absurd (let bad : None ≡ Some s = sym (ap (option_map (λ (y : Session). y.seat)) fresh) ∙ ap (seat_of sessions) (sym e) ∙ old in cc)
+            | inl e ↦ absurd (let bad : None ≡ Some s = sym (ap (option_map (λ (y : Session). y.seat)) fresh) ∙ ap (sits_at sessions) (sym e) ∙ old in cc)
             | inr n ↦ seat_there m n ∙ old
           ]
     ]
@@ -536,21 +536,21 @@ module _ (sessions : Sessions) (index : Index) (h : IsIndex sessions index) wher
   -- a session leaves its seat
   module _ (k : ℕ) (x : Session) (there : at_number sessions k ≡ Some x) (idle : has_request x ≡ false) (rests : is_idle x.last ≡ true) (now : Index) (busy : now.busy ≡ index.busy)
       (holders : now.holders.entries ≡ index.holders.entries) (put : IsPut index.seats.entries now.seats.entries x.seat None) where
-    gone_here : seat_of (take_number sessions k) k ≡ None
+    gone_here : sits_at (take_number sessions k) k ≡ None
     gone_here = ap (option_map (λ (y : Session). y.seat)) (take_number_same sessions k h.sorted)
 
-    gone_there : (m : ℕ) → is_eq (nat_cmp m k) ≡ false → seat_of (take_number sessions k) m ≡ seat_of sessions m
+    gone_there : (m : ℕ) → is_eq (nat_cmp m k) ≡ false → sits_at (take_number sessions k) m ≡ sits_at sessions m
     gone_there m n = ap (option_map (λ (y : Session). y.seat)) (take_number_other sessions k m n)
 
-    sat : seat_of sessions k ≡ Some x.seat
+    sat : sits_at sessions k ≡ Some x.seat
     sat = ap (option_map (λ (y : Session). y.seat)) there
 
     differ : (m : ℕ) → is_eq (nat_cmp m k) ≡ false → m ≡ k → ⊥
     differ m n e = let bad : true ≡ false = sym (itself k) ∙ ap (λ j. is_eq (nat_cmp j k)) (sym e) ∙ n in cc
 
-    closed_seated : (m s : ℕ) → seat_of (take_number sessions k) m ≡ Some s → at_number now.seats.entries s ≡ Some m
+    closed_seated : (m s : ℕ) → sits_at (take_number sessions k) m ≡ Some s → at_number now.seats.entries s ≡ Some m
     closed_seated m s is = elim (number_cases m k) [
-      | inl e ↦ absurd (let bad : None ≡ Some s = sym gone_here ∙ ap (seat_of (take_number sessions k)) (sym e) ∙ is in cc)
+      | inl e ↦ absurd (let bad : None ≡ Some s = sym gone_here ∙ ap (sits_at (take_number sessions k)) (sym e) ∙ is in cc)
       | inr n ↦
           let old : at_number index.seats.entries s ≡ Some m = h.seated m s (sym (gone_there m n) ∙ is) in
           elim (number_cases x.seat s) [
@@ -559,13 +559,13 @@ module _ (sessions : Sessions) (index : Index) (h : IsIndex sessions index) wher
           ]
     ]
 
-    closed_sits : (s m : ℕ) → at_number now.seats.entries s ≡ Some m → seat_of (take_number sessions k) m ≡ Some s
+    closed_sits : (s m : ℕ) → at_number now.seats.entries s ≡ Some m → sits_at (take_number sessions k) m ≡ Some s
     closed_sits s m is = elim (number_cases x.seat s) [
       | inl e ↦ absurd (let bad : None ≡ Some m = sym (put_here index.seats.entries now.seats.entries x.seat None put) ∙ ap (at_number now.seats.entries) e ∙ is in cc)
       | inr a ↦
-          let old : seat_of sessions m ≡ Some s = h.sits s m (sym (put_there index.seats.entries now.seats.entries x.seat None put s a) ∙ is) in
+          let old : sits_at sessions m ≡ Some s = h.sits s m (sym (put_there index.seats.entries now.seats.entries x.seat None put s a) ∙ is) in
           elim (number_cases m k) [
-            | inl e ↦ absurd (differ_seat s a (same_at x.seat s (seat_of sessions k) sat (ap (seat_of sessions) (sym e) ∙ old)))
+            | inl e ↦ absurd (differ_seat s a (same_at x.seat s (sits_at sessions k) sat (ap (sits_at sessions) (sym e) ∙ old)))
             | inr n ↦ gone_there m n ∙ old
           ]
     ]

@@ -2,10 +2,11 @@
 use Rattle.std.proofs.Common.{◌≡◌, ◌+◌, ◌*◌, ◌≤◌, arith, sym, ap, ◌∙◌, subst, Option, Some}
 use Rattle.ld_history.specs.declared.limits.Limits.{Limits}
 use Rattle.ld_history.specs.Store.{Store}
-use Rattle.ld_history.specs.Legal.{IsKept, state}
-use Rattle.ld_history.specs.Counts.{Entries, loads_under_way}
+use Rattle.ld_history.specs.Legal.{state, Entries}
+use Rattle.ld_history.specs.Counts.{loads_under_way}
 use Rattle.ld_history.specs.Steps.{Taken}
 use Rattle.ld_history.specs.Plans.{AreFew, AllowsStep}
+use Rattle.ld_history.specs.ByTurns.{IsKept}
 use Rattle.ld_history.proofs.LawHolds.{bytes_kept}
 use Rattle.ld_history.proofs.LawSound.{sound}
 

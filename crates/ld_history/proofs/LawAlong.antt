@@ -3,10 +3,9 @@
 use Rattle.std.proofs.Common.{◌≡◌, [], ◌∷◌, ◌++◌, refl, sym, subst, true, append_assoc, append-nil}
 use Rattle.ld_history.specs.declared.limits.Limits.{Limits}
 use Rattle.ld_history.specs.Store.{Store, empty_store}
-use Rattle.ld_history.specs.Rules.{allows}
+use Rattle.ld_history.specs.ByTurns.{allows, Legal, LegalFrom}
 use Rattle.ld_history.specs.After.{after}
-use Rattle.ld_history.specs.Legal.{replay, state, Legal, LegalFrom}
-use Rattle.ld_history.specs.Counts.{Entries}
+use Rattle.ld_history.specs.Legal.{replay, state, Entries}
 
 pub replay-append : (store : Store) (front back : Entries) → replay store (front ++ back) ≡ replay (replay store front) back
 replay-append store [] back = refl

@@ -125,7 +125,7 @@ over_weighs : (how : End) → (how ≡ end.UnderWay → ⊥) → is_under_way ho
 over_weighs end.UnderWay n = absurd (n refl)
 over_weighs (end.Published version) n = refl
 over_weighs end.Same n = refl
-over_weighs end.Failed n = refl
+over_weighs (end.Failed before after) n = refl
 over_weighs end.Lapsed n = refl
 
 fewer_leads : (leads : Table) (iri : List ℕ) (κ : Kind) (revisions : Table) (l : Flying) → at_iri (pick leads revisions κ) iri ≡ Some l

@@ -24,16 +24,18 @@ use Rattle.ld_history.specs.declared.session.Last.TheVariants as last
 use Rattle.ld_history.specs.declared.session.End.{End}
 use Rattle.ld_history.specs.declared.session.End.TheVariants as end
 use Rattle.ld_history.specs.Store.{Store, empty_store}
-use Rattle.ld_history.specs.Words.{at_iri, flight_at, is_some_and, is_lead, is_stored, is_led, is_idle, is_pinned, is_under_way, is_published, has_request, has_flight, is_led_by, holds, was_stored, same_iri}
-use Rattle.ld_history.specs.Rules.{allows}
-use Rattle.ld_history.specs.Legal.{state, Legal}
-use Rattle.ld_history.specs.Counts.{Entries, leads_under_way, loads_under_way, lacked, attempts, spent, reserve}
+use Rattle.ld_history.specs.Words.{at_iri, flight_at, is_some_and, is_lead, is_stored, is_led, is_idle, is_pinned, is_under_way, is_published, has_request, has_flight, is_led_by, holds, same_iri}
+use Rattle.ld_history.specs.ByTurns.{allows, Legal}
+use Rattle.ld_history.specs.Legal.{state, Entries, is_in_stock}
+use Rattle.ld_history.specs.Counts.{leads_under_way, loads_under_way, lacked, attempts, spent, reserve}
 use Rattle.ld_history.specs.Laws.{IsUnderWay, IsOpenAs, LeadsNothing, WasLeft, MayFollow}
 use Rattle.ld_history.proofs.LawAlong.{legal_more}
 use Rattle.ld_history.proofs.LawReads.{under_way_is}
 use Rattle.ld_history.proofs.LawAirborne.{pick, same_kind}
 use Rattle.ld_history.proofs.LawCrew.{Awaits, is_trying}
 use Rattle.ld_history.proofs.LawSound.{sound}
+use Rattle.ld_history.proofs.LawStock.{turns_tell}
+use Rattle.ld_history.proofs.LawTold.{allowed_alike}
 use Rattle.ld_history.proofs.LawTracked.{tracked}
 use Rattle.ld_history.proofs.LawRoom.{roomy}
 
@@ -78,7 +80,7 @@ module _ (limits : Limits) (entries : Entries) (legal : Legal limits entries) (s
       ∙ (sound limits entries legal).air.flights.known w.flight w.f w.is is))
   left_or_led w (end.Published version) is = let yes_it_is : is_published w.f.end ≡ true = ap is_published is in let not_so : is_published w.f.end ≡ false = w.unpublished in cc
   left_or_led w end.Same is = inr (record { number = w.flight; flight = w.f; waits = w.own; is = w.is; for_iri = w.for_iri; over = ap is_under_way is; unpublished = w.unpublished })
-  left_or_led w end.Failed is = inr (record { number = w.flight; flight = w.f; waits = w.own; is = w.is; for_iri = w.for_iri; over = ap is_under_way is; unpublished = w.unpublished })
+  left_or_led w (end.Failed before after) is = inr (record { number = w.flight; flight = w.f; waits = w.own; is = w.is; for_iri = w.for_iri; over = ap is_under_way is; unpublished = w.unpublished })
   left_or_led w end.Lapsed is = inr (record { number = w.flight; flight = w.f; waits = w.own; is = w.is; for_iri = w.for_iri; over = ap is_under_way is; unpublished = w.unpublished })
 
 pub held_where : (limits : Limits) (entries : Entries) (session : ℕ) (s : Session) (iri : List ℕ) → Legal limits entries → IsOpenAs (state entries) session s → holds s iri ≡ true
@@ -98,8 +100,9 @@ pinned_trying (last.Evicted v) h = cc
 pinned_trying (last.ReviseLed f) h = cc
 
 pub pinned_holds : (limits : Limits) (entries : Entries) (session : ℕ) (s : Session) (iri : List ℕ) → Legal limits entries → IsOpenAs (state entries) session s → is_pinned s.last ≡ true → holds s iri ≡ true
-    → was_stored (state entries) iri s.version ≡ true
-pinned_holds limits entries session s iri legal is pinned held = ((sound limits entries legal).crew.each session s is).had (pinned_trying s.last pinned) iri held
+    → is_in_stock entries iri s.version ≡ true
+pinned_holds limits entries session s iri legal is pinned held =
+    let sits = (sound limits entries legal).crew.each session s is in sym (turns_tell limits entries legal iri s.version sits.pinned) ∙ sits.had (pinned_trying s.last pinned) iri held
 
 -- ---- requests
 pub lacks_differ : (limits : Limits) (entries : Entries) (session : ℕ) → limits.held ≤ 64 → Legal limits entries → IsDistinct same_iri (lacked session entries)
@@ -124,7 +127,7 @@ room_kept limits entries small legal = (roomy limits small entries legal).room
 follows_on : (limits : Limits) (entries : Entries) (entry : Entry (List ℕ) Given) → limits.held ≤ 64 → Legal limits entries → allows limits (state entries) entry ≡ true → MayFollow limits entries entry
 follows_on limits entries entry small legal ok =
     let room = room_kept limits (entries ++ entry ∷ []) small (legal_more limits empty_store entries (entry ∷ []) legal (ok, tt)) in
-    record { allowed = ok; room = omega (arith, room, length-append entries (entry ∷ [])) }
+    record { allowed = allowed_alike limits entries legal entry ∙ ok; room = omega (arith, room, length-append entries (entry ∷ [])) }
 
 pub valued_place : {K X : Type 0} (p : X → Bool) (es : List (K × X)) → list_any p (values_of es) ≡ true → (i : ℕ) × (e : K × X) × (slice_get es i ≡ Some e) × (p e.1 ≡ true)
 valued_place p [] h = cc

@@ -14,7 +14,8 @@ use Rattle.ld_history.specs.declared.session.End.TheVariants as end
 use Rattle.ld_history.specs.Store.{Store}
 use Rattle.ld_history.specs.Words.{at_number, flight_at, has_request, is_under_way, requests_under_way}
 use Rattle.ld_history.specs.After.{ended_as}
-use Rattle.ld_history.specs.Counts.{owner, grown, lacking, tried}
+use Rattle.ld_history.specs.Counts.{owner, spent_with, lacked_with, tried}
+use Rattle.ld_history.specs.Ahead.{rise}
 use Rattle.ld_history.proofs.LawFlights.{number_cases, apart_numbers, flight_more, flight_ended, flight_kept}
 use Rattle.ld_history.proofs.LawCrew.{leads_it}
 
@@ -68,7 +69,7 @@ not_flying : (how : End) → (how ≡ end.UnderWay → ⊥) → is_under_way how
 not_flying end.UnderWay n = absurd (n refl)
 not_flying (end.Published version) n = refl
 not_flying end.Same n = refl
-not_flying end.Failed n = refl
+not_flying (end.Failed before after) n = refl
 not_flying end.Lapsed n = refl
 
 found_ended : (flights : List Flight) (number : ℕ) (g : Flight) (how : End) → flight_at flights number ≡ Some g → (how ≡ end.UnderWay → ⊥) → (flight n m : ℕ)
@@ -117,8 +118,9 @@ abbrev pub left : Session → ℕ → ℕ
 left s count = if has_request s then 320 - count else 0
 
 -- a first Pinned takes 320 from the room that there is
-pub record Takes (limits : Limits) (store : Store) (s : Session) : Type 0 where
+pub record Takes (limits : Limits) (store : Store) (s : Session) (event : Event (List ℕ)) : Type 0 where
   pub nothing : has_request s ≡ false
+  pub rises : rise event ≡ 320
   pub room : store.events + 320 * (requests_under_way store + 1) + 256 ≤ limits.events
 
 -- The event belongs to an open session, s before it and t after it. It may open none and close none.
@@ -128,10 +130,10 @@ pub record Moved (limits : Limits) (store now : Store) (event : Event (List ℕ)
   pub is : at_number store.sessions (owner store event) ≡ Some s
   pub set : now.sessions ≡ set_value (is_at (nat_cmp (owner store event))) store.sessions t
   pub others : (l : Last) (held count : ℕ) → Spends store.flights l held count → Spends now.flights l held count
-  pub spends : (count : ℕ) → Spends store.flights s.last (length s.held) count → Spends now.flights t.last (length t.held) (grown count event)
-  pub follows : (iris : List (List ℕ)) (count : ℕ) → Follows s iris count → Follows t (lacking iris event) (tried count event)
-  pub rests : t.last ≡ last.Idle → (iris : List (List ℕ)) (count : ℕ) → (lacking iris event ≡ iris) × (tried count event ≡ count)
-  pub pays : (count : ℕ) → Spends store.flights s.last (length s.held) count → (suc (left t (grown count event)) ≤ left s count) ⊎ ((left t (grown count event) ≤ 319) × Takes limits store s)
+  pub spends : (count : ℕ) → Spends store.flights s.last (length s.held) count → Spends now.flights t.last (length t.held) (spent_with count event)
+  pub follows : (iris : List (List ℕ)) (count : ℕ) → Follows s iris count → Follows t (lacked_with iris event) (tried count event)
+  pub rests : t.last ≡ last.Idle → (iris : List (List ℕ)) (count : ℕ) → (lacked_with iris event ≡ iris) × (tried count event ≡ count)
+  pub pays : (count : ℕ) → Spends store.flights s.last (length s.held) count → (suc (left t (spent_with count event)) ≤ left s count) ⊎ ((left t (spent_with count event) ≤ 319) × Takes limits store s event)
 
 -- one entry of a request under way, which stays so
 pub pays_one : (s t : Session) (count : ℕ) → has_request s ≡ true → count ≤ 260 → suc (left t (count + 1)) ≤ left s count

@@ -17,9 +17,9 @@ use Rattle.ld_history.specs.declared.session.End.{End}
 use Rattle.ld_history.specs.declared.session.End.TheVariants as end
 use Rattle.ld_history.specs.Store.{Store}
 use Rattle.ld_history.specs.Words.{at_number, is_idle, has_request, is_pinned}
-use Rattle.ld_history.specs.Rules.{may_pin_again, made_place}
+use Rattle.ld_history.specs.Rules.{may_pin_again, place_was_made}
 use Rattle.ld_history.specs.After.{ended_as, after_pinned, after_found, after_led, after_joined, after_evicted, after_revise_led, after_answered}
-use Rattle.ld_history.specs.Counts.{owner, leader, grown, lacking, tried}
+use Rattle.ld_history.specs.Counts.{owner, leader, spent_with, lacked_with, tried}
 use Rattle.ld_history.proofs.LawReads.{Pins, Begins, GoesOn, Finds, Leads, Joins, Revises, Evicts, Answers, Flies, pinned_is}
 use Rattle.ld_history.proofs.LawFlights.{flight_last}
 use Rattle.ld_history.proofs.LawCrew.{Crew, leads_it, is_evicting, changed_is}
@@ -80,9 +80,9 @@ module _ (limits : Limits) (small : limits.held ≤ 64) (store : Store) (h : Cre
   pinned_busy s pinned e = cc
 
   -- an entry of a request under way is paid from what it may still append
-  paid : (n : ℕ) (s t : Session) (is : at_number store.sessions n ≡ Some s) → (s.last ≡ last.Idle → ⊥) → (count : ℕ) → Spends store.flights s.last (length s.held) count
-      → (suc (left t (count + 1)) ≤ left s count) ⊎ ((left t (count + 1) ≤ 319) × Takes limits store s)
-  paid n s t is busy count sp = inl (pays_one s t count (busy_asked s.last busy) (spends-most store.flights s.last (length s.held) count (few n s is) sp))
+  paid : (event : Event (List ℕ)) (n : ℕ) (s t : Session) (is : at_number store.sessions n ≡ Some s) → (s.last ≡ last.Idle → ⊥) → (count : ℕ) → Spends store.flights s.last (length s.held) count
+      → (suc (left t (count + 1)) ≤ left s count) ⊎ ((left t (count + 1) ≤ 319) × Takes limits store s event)
+  paid event n s t is busy count sp = inl (pays_one s t count (busy_asked s.last busy) (spends-most store.flights s.last (length s.held) count (few n s is) sp))
 
   more_held : (xs : List (List ℕ)) (iri : List ℕ) → length (xs ++ iri ∷ []) ≡ length xs + 1
   more_held xs iri = length-append xs (iri ∷ [])
@@ -103,7 +103,14 @@ module _ (limits : Limits) (small : limits.held ≤ 64) (store : Store) (h : Cre
         follows = λ iris count f busy. (ap (λ b. if b then [] else iris) one ∙ sym none, (ap (λ b. if b then 1 else count + 1) one ∙ sym b.first));
         rests = λ e. cc;
         pays = λ count sp. let e : (if attempt == 1 then 1 else count + 1) ≡ 1 = ap (λ b. if b then 1 else count + 1) one in
-            inr (omega (arith, e), record { nothing = ap (λ l. not (is_idle l)) b.idle; room = b.room });
+            inr (
+              omega (arith, e),
+              record {
+                nothing = ap (λ l. not (is_idle l)) b.idle;
+                rises = ap (λ b. if b then 320 else 0) one;
+                room = b.room;
+              },
+            );
       }
 
   pin_goes_on : (session request attempt version : ℕ) (p : Pins limits store session request attempt version) → GoesOn store request attempt p.s
@@ -125,8 +132,8 @@ module _ (limits : Limits) (small : limits.held ≤ 64) (store : Store) (h : Cre
         rests = λ e. cc;
         pays = λ count sp. let e : (if attempt == 1 then 1 else count + 1) ≡ count + 1 = ap (λ b. if b then 1 else count + 1) later in
             subst (λ k. (suc (left (record p.s { request = request; attempt = attempt; version = version; last = last.Pinned }) k) ≤ left p.s count)
-            ⊎ ((left (record p.s { request = request; attempt = attempt; version = version; last = last.Pinned }) k ≤ 319) × Takes limits store p.s)) (sym e)
-            (paid session p.s (record p.s { request = request; attempt = attempt; version = version; last = last.Pinned }) p.is busy count sp);
+            ⊎ ((left (record p.s { request = request; attempt = attempt; version = version; last = last.Pinned }) k ≤ 319) × Takes limits store p.s (event.Pinned session request attempt version))) (sym e)
+            (paid (event.Pinned session request attempt version) session p.s (record p.s { request = request; attempt = attempt; version = version; last = last.Pinned }) p.is busy count sp);
       }
 
   pin_either : (session request attempt version : ℕ) (p : Pins limits store session request attempt version) → Begins limits store request attempt p.s ⊎ GoesOn store request attempt p.s
@@ -149,7 +156,7 @@ module _ (limits : Limits) (small : limits.held ≤ 64) (store : Store) (h : Cre
     spends = λ count sp. omega (arith, pinned_spends session p.s p.is p.pinned count sp, more_held p.s.held iri);
     follows = λ iris count f still. let known = f (pinned_busy p.s p.pinned) in (ap (λ l. l ++ iri ∷ []) known.0, known.1);
     rests = λ e. cc;
-    pays = paid session p.s (record p.s { held = p.s.held ++ iri ∷ []; last = last.Found }) p.is (pinned_busy p.s p.pinned);
+    pays = paid (event.Found session iri) session p.s (record p.s { held = p.s.held ++ iri ∷ []; last = last.Found }) p.is (pinned_busy p.s p.pinned);
   }
 
   -- ---- 5 Joined
@@ -163,16 +170,16 @@ module _ (limits : Limits) (small : limits.held ≤ 64) (store : Store) (h : Cre
     spends = λ count sp. omega (arith, pinned_spends session p.s p.is p.pinned count sp, more_held p.s.held iri);
     follows = λ iris count f still. let known = f (pinned_busy p.s p.pinned) in (ap (λ l. l ++ iri ∷ []) known.0, known.1);
     rests = λ e. cc;
-    pays = paid session p.s (record p.s { held = p.s.held ++ iri ∷ []; last = last.Joined flight }) p.is (pinned_busy p.s p.pinned);
+    pays = paid (event.Joined session iri flight) session p.s (record p.s { held = p.s.held ++ iri ∷ []; last = last.Joined flight }) p.is (pinned_busy p.s p.pinned);
   }
 
   -- ---- 4 Led
   module _ (session : ℕ) (iri : List ℕ) (flight : ℕ) (p : Leads limits store session iri flight) where
-    ready_busy : (is_pinned p.s.last ≡ true) ⊎ (made_place limits store session iri ≡ true) → p.s.last ≡ last.Idle → ⊥
+    ready_busy : (is_pinned p.s.last ≡ true) ⊎ (place_was_made limits store session iri ≡ true) → p.s.last ≡ last.Idle → ⊥
     ready_busy (inl pinned) = pinned_busy p.s (pinned_is p.s.last pinned)
     ready_busy (inr made) = evicting_busy p.s.last (made_by limits store h session iri p.s p.is made)
 
-    ready_spends : (is_pinned p.s.last ≡ true) ⊎ (made_place limits store session iri ≡ true) → (count : ℕ) → Spends store.flights p.s.last (length p.s.held) count → (count ≤ 4 * length p.s.held + 2)
+    ready_spends : (is_pinned p.s.last ≡ true) ⊎ (place_was_made limits store session iri ≡ true) → (count : ℕ) → Spends store.flights p.s.last (length p.s.held) count → (count ≤ 4 * length p.s.held + 2)
     ready_spends (inl pinned) count sp = omega (arith, pinned_spends session p.s p.is (pinned_is p.s.last pinned) count sp)
     ready_spends (inr made) count sp = evicting_spends store.flights p.s.last (length p.s.held) count (made_by limits store h session iri p.s p.is made) sp
 
@@ -190,7 +197,7 @@ module _ (limits : Limits) (small : limits.held ≤ 64) (store : Store) (h : Cre
       );
       follows = λ iris count f still. let known = f (ready_busy p.ready) in (ap (λ l. l ++ iri ∷ []) known.0, known.1);
       rests = λ e. cc;
-      pays = paid session p.s (record p.s { held = p.s.held ++ iri ∷ []; last = last.Led flight }) p.is (ready_busy p.ready);
+      pays = paid (event.Led session iri flight) session p.s (record p.s { held = p.s.held ++ iri ∷ []; last = last.Led flight }) p.is (ready_busy p.ready);
     }
 
   -- ---- 9 Evicted
@@ -204,7 +211,7 @@ module _ (limits : Limits) (small : limits.held ≤ 64) (store : Store) (h : Cre
     spends = λ count sp. omega (arith, pinned_spends session p.s p.is p.pinned count sp);
     follows = λ iris count f still. f (pinned_busy p.s p.pinned);
     rests = λ e. cc;
-    pays = paid session p.s (record p.s { last = last.Evicted version }) p.is (pinned_busy p.s p.pinned);
+    pays = paid (event.Evicted session iri version) session p.s (record p.s { last = last.Evicted version }) p.is (pinned_busy p.s p.pinned);
   }
 
   -- ---- 10 ReviseLed
@@ -222,7 +229,7 @@ module _ (limits : Limits) (small : limits.held ≤ 64) (store : Store) (h : Cre
     );
     follows = λ iris count f still. f (pinned_busy p.s p.pinned);
     rests = λ e. cc;
-    pays = paid session p.s (record p.s { last = last.ReviseLed flight }) p.is (pinned_busy p.s p.pinned);
+    pays = paid (event.ReviseLed session iri flight) session p.s (record p.s { last = last.ReviseLed flight }) p.is (pinned_busy p.s p.pinned);
   }
 
   -- ---- 12 Answered
@@ -236,13 +243,13 @@ module _ (limits : Limits) (small : limits.held ≤ 64) (store : Store) (h : Cre
     spends = λ count sp. omega (arith, spends-busy store.flights p.s.last (length p.s.held) count (few session p.s p.is) (asked_busy p.s p.asked) sp);
     follows = λ iris count f busy. absurd (busy refl);
     rests = λ e iris count. (refl, refl);
-    pays = paid session p.s (record p.s { held = []; last = last.Idle }) p.is (asked_busy p.s p.asked);
+    pays = paid (event.Answered session request how) session p.s (record p.s { held = []; last = last.Idle }) p.is (asked_busy p.s p.asked);
   }
 
   -- ---- a flight ends
   module _ (now : Store) (event : Event (List ℕ)) (flight : ℕ) (how : End) (over : how ≡ end.UnderWay → ⊥) (p : Flies store flight)
-      (own : owner store event ≡ leader store flight) (grows : (count : ℕ) → grown count event ≡ count + 1)
-      (lacks : (iris : List (List ℕ)) → lacking iris event ≡ iris) (tries : (count : ℕ) → tried count event ≡ count)
+      (own : owner store event ≡ leader store flight) (grows : (count : ℕ) → spent_with count event ≡ count + 1)
+      (lacks : (iris : List (List ℕ)) → lacked_with iris event ≡ iris) (tries : (count : ℕ) → tried count event ≡ count)
       (sessions : now.sessions ≡ store.sessions) (flights : now.flights ≡ ended_as store.flights flight how) where
     owner_is : owner store event ≡ p.f.session
     owner_is = own ∙ ap (λ o. unwrap_or (option_map (λ (f : Flight). f.session) o) 0) p.is
@@ -261,6 +268,6 @@ module _ (limits : Limits) (small : limits.held ≤ 64) (store : Store) (h : Cre
               (subst (λ fs. Spends fs w.0.last (length w.0.held) (count + 1)) (sym flights) (spends-own store.flights flight p.f how p.is p.flying over w.0.last (length w.0.held) count w.2 sp));
           follows = λ iris count f busy. (lacks iris ∙ (f busy).0, tries count ∙ (f busy).1);
           rests = λ e iris count. (lacks iris, tries count);
-          pays = λ count sp. subst (λ k. (suc (left w.0 k) ≤ left w.0 count) ⊎ ((left w.0 k ≤ 319) × Takes limits store w.0)) (sym (grows count))
-              (paid p.f.session w.0 w.0 w.1 (leading_busy w.0.last flight w.2) count sp);
+          pays = λ count sp. subst (λ k. (suc (left w.0 k) ≤ left w.0 count) ⊎ ((left w.0 k ≤ 319) × Takes limits store w.0 event)) (sym (grows count))
+              (paid event p.f.session w.0 w.0 w.1 (leading_busy w.0.last flight w.2) count sp);
         }

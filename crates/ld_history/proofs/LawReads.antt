@@ -11,8 +11,9 @@ use Rattle.ld_history.specs.declared.session.Flight.{Flight}
 use Rattle.ld_history.specs.declared.session.End.{End}
 use Rattle.ld_history.specs.declared.session.End.TheVariants as end
 use Rattle.ld_history.specs.Store.{Store}
-use Rattle.ld_history.specs.Words.{at_number, flight_at, is_some_and, is_idle, is_pinned, has_request, is_under_way, is_stored, is_led, is_revised, places, was_stored, flights_under_way, requests_under_way, is_held, is_taken, has_flight}
-use Rattle.ld_history.specs.Rules.{may_open, may_pin, begins, goes_on, may_pin_again, lacks, may_find, made_place, has_place, may_lead, is_led_as, may_join, may_publish, is_flying, may_fail, may_evict, may_revise, may_be_same, may_answer, may_close}
+use Rattle.ld_history.specs.Words.{at_number, flight_at, is_some_and, is_idle, is_pinned, has_request, is_under_way, is_stored, is_led, is_revised, places, flights_under_way, requests_under_way, is_held, is_taken, has_flight}
+use Rattle.ld_history.specs.Rules.{may_open, may_pin, begins, goes_on, may_pin_again, place_was_made, has_place, is_led_as, may_publish, is_flying, may_fail, may_evict, may_revise, may_be_same, may_close}
+use Rattle.ld_history.specs.ByTurns.{was_stored, lacks, may_find, may_lead, may_join, may_answer}
 
 pub some_and : {X : Type 0} (test : X → Bool) (o : Option X) → is_some_and test o ≡ true → (x : X) × (o ≡ Some x) × (test x ≡ true)
 some_and test None h = cc
@@ -43,7 +44,7 @@ pub under_way_is : (e : End) → is_under_way e ≡ true → e ≡ end.UnderWay
 under_way_is end.UnderWay h = refl
 under_way_is (end.Published v) h = cc
 under_way_is end.Same h = cc
-under_way_is end.Failed h = cc
+under_way_is (end.Failed before after) h = cc
 under_way_is end.Lapsed h = cc
 
 -- the session is open as s
@@ -146,7 +147,7 @@ read_place limits store iri flight h =
 pub record Leads (limits : Limits) (store : Store) (session : ℕ) (iri : List ℕ) (flight : ℕ) : Type 0 where
   pub s : Session
   pub is : IsOpen store session s
-  pub ready : (is_pinned s.last ≡ true) ⊎ (made_place limits store session iri ≡ true)
+  pub ready : (is_pinned s.last ≡ true) ⊎ (place_was_made limits store session iri ≡ true)
   pub lack : Lacks limits store iri s
   pub has : HasPlace limits store iri flight
 

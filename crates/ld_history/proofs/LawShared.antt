@@ -14,7 +14,7 @@ use Rattle.ld_history.specs.declared.session.End.TheVariants as end
 use Rattle.ld_history.specs.declared.session.Eviction.{Eviction}
 use Rattle.ld_history.specs.Store.{Store}
 use Rattle.ld_history.specs.Words.{at_number, at_iri, flight_at, is_some_and, is_published, is_pinned, is_stored, is_lead, holds, places, is_next_out}
-use Rattle.ld_history.specs.Rules.{made_place}
+use Rattle.ld_history.specs.Rules.{place_was_made}
 use Rattle.ld_history.specs.After.{named, changed, put_iri, take_iri, turned, begun, ended_as, after_led, after_revise_led, after_evicted, landed, answered_by}
 use Rattle.ld_history.proofs.LawReads.{some_and, both, pinned_is, Leads, Revises, Evicts}
 use Rattle.ld_history.proofs.LawFlights.{number_cases, apart_numbers, iri_cases, put_iri_same, put_iri_other, take_iri_same, take_iri_other, flight_more, flight_last, flight_ended, flight_kept}
@@ -52,7 +52,7 @@ awaits-more : (flights more : List Flight) (l : Last) (iri : List ℕ) → Await
 awaits-more flights more l iri w = record { flight = w.flight; f = w.f; own = w.own; is = flight_more flights more w.flight w.f w.is; for_iri = w.for_iri; lead = w.lead; unpublished = w.unpublished }
 
 module _ (limits : Limits) (store : Store) (h : Crew limits store) where
-  pub made_by : (session : ℕ) (iri : List ℕ) (s : Session) → at_number store.sessions session ≡ Some s → made_place limits store session iri ≡ true → is_evicting s.last ≡ true
+  pub made_by : (session : ℕ) (iri : List ℕ) (s : Session) → at_number store.sessions session ≡ Some s → place_was_made limits store session iri ≡ true → is_evicting s.last ≡ true
   made_by session iri s is made =
       let e = some_and _ _ made in
       let a = both e.2 in
@@ -65,11 +65,11 @@ module _ (limits : Limits) (store : Store) (h : Crew limits store) where
 
   -- ---- 4 Led
   module _ (session : ℕ) (iri : List ℕ) (flight : ℕ) (p : Leads limits store session iri flight) where
-    ready_trying : (is_pinned p.s.last ≡ true) ⊎ (made_place limits store session iri ≡ true) → is_trying p.s.last ≡ true
+    ready_trying : (is_pinned p.s.last ≡ true) ⊎ (place_was_made limits store session iri ≡ true) → is_trying p.s.last ≡ true
     ready_trying (inl pinned) = ap is_trying (pinned_is p.s.last pinned)
     ready_trying (inr made) = evicting_trying p.s.last (made_by session iri p.s p.is made)
 
-    ready_leads : (is_pinned p.s.last ≡ true) ⊎ (made_place limits store session iri ≡ true) → (m : ℕ) → leads_it m p.s.last ≡ false
+    ready_leads : (is_pinned p.s.last ≡ true) ⊎ (place_was_made limits store session iri ≡ true) → (m : ℕ) → leads_it m p.s.last ≡ false
     ready_leads (inl pinned) m = ap (leads_it m) (pinned_is p.s.last pinned)
     ready_leads (inr made) m = evicting_leads p.s.last m (made_by session iri p.s p.is made)
 

@@ -12,10 +12,10 @@ use Rattle.ld_history.specs.declared.session.End.TheVariants as end
 use Rattle.ld_history.specs.declared.session.Eviction.{Eviction}
 use Rattle.ld_history.specs.Store.{Store, empty_store}
 use Rattle.ld_history.specs.Words.{flight_at, is_published}
-use Rattle.ld_history.specs.Rules.{allows_alone, allows_with, allows_given, allows}
+use Rattle.ld_history.specs.Rules.{allows_with}
 use Rattle.ld_history.specs.After.{after, after_event, eviction, with_flight, landed, answered_by}
-use Rattle.ld_history.specs.Legal.{state, Legal}
-use Rattle.ld_history.specs.Counts.{Entries}
+use Rattle.ld_history.specs.Legal.{state, Entries}
+use Rattle.ld_history.specs.ByTurns.{allows_alone, allows_given, allows, Legal}
 use Rattle.ld_history.proofs.LawAlong.{kept_along}
 use Rattle.ld_history.proofs.LawReads.{read_open, read_pin, read_find, read_lead, read_join, read_fly, read_fail, read_publish, read_evict, read_revise, read_same, read_answer, read_close, Flies, Publishes}
 use Rattle.ld_history.proofs.LawAir.{Air, air-empty, air-led, air-revise, air-landed, air-published, air-evicted}
@@ -94,7 +94,7 @@ module _ (limits : Limits) (store : Store) (h : Sound limits store) where
     crew = crew-joined limits store h.crew h.air session iri flight (read_join limits store session iri flight ok) (store.events + 1);
   }
   sound-alone (event.Published flight version) ok = cc
-  sound-alone (event.Failed flight before after) ok = ends flight end.Failed (λ e. cc) refl (read_fly store flight (read_fail store flight before after ok))
+  sound-alone (event.Failed flight before after) ok = ends flight (end.Failed before after) (λ e. cc) refl (read_fly store flight (read_fail store flight before after ok))
   sound-alone (event.Lapsed flight) ok = ends flight end.Lapsed (λ e. cc) refl (read_fly store flight ok)
   sound-alone (event.Evicted session iri version) ok =
       let p = read_evict store session iri version ok in

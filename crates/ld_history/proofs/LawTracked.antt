@@ -20,10 +20,11 @@ use Rattle.ld_history.specs.declared.session.Flight.{Flight}
 use Rattle.ld_history.specs.declared.session.End.TheVariants as end
 use Rattle.ld_history.specs.Store.{Store, empty_store}
 use Rattle.ld_history.specs.Words.{at_number}
-use Rattle.ld_history.specs.Rules.{allows, allows_alone, allows_with, allows_given}
+use Rattle.ld_history.specs.Rules.{allows_with}
 use Rattle.ld_history.specs.After.{after, after_event, put_number, take_number, with_flight, landed, answered_by}
-use Rattle.ld_history.specs.Legal.{replay, state, Legal}
-use Rattle.ld_history.specs.Counts.{Entries, owner, own, own_from, grown, lacking, tried, spent, lacked, attempts}
+use Rattle.ld_history.specs.Legal.{replay, state, Entries}
+use Rattle.ld_history.specs.Counts.{owner, own, own_from, spent_with, lacked_with, tried, spent, lacked, attempts}
+use Rattle.ld_history.specs.ByTurns.{allows, allows_alone, allows_given, Legal}
 use Rattle.ld_history.proofs.LawAlong.{along, replay-append}
 use Rattle.ld_history.proofs.LawReads.{read_pin, read_find, read_lead, read_join, read_fly, read_fail, read_publish, read_evict, read_revise, read_same, read_answer}
 use Rattle.ld_history.proofs.LawFlights.{number_cases, put_number_same, put_number_other, take_number_same, take_number_other}
@@ -88,17 +89,17 @@ module _ (limits : Limits) (small : limits.held ≤ 64) (store now : Store) (eve
   moved_at : owner store event ≡ n → at_number now.sessions n ≡ Some m.t
   moved_at e = ap (λ l. at_number l n) m.set ∙ subst (λ k. at_number (set_value (is_at (nat_cmp (owner store event))) store.sessions m.t) k ≡ Some m.t) e (set_number_same store.sessions (owner store event) m.t m.s m.is)
 
-  pub track-mine : owner store event ≡ n → Track limits now.flights now.sessions n (lacking iris event) (tried tries event) (grown count event)
+  pub track-mine : owner store event ≡ n → Track limits now.flights now.sessions n (lacked_with iris event) (tried tries event) (spent_with count event)
   track-mine e =
       let was : at_number store.sessions n ≡ Some m.s = subst (λ k. at_number store.sessions k ≡ Some m.s) e m.is in
       let sits : Sits limits now.version now.flights now.stored now.turns m.t = each n m.t (moved_at e) in
-      let sp : Spends now.flights m.t.last (length m.t.held) (grown count event) = m.spends count (h.spends m.s was) in
-      let fo : Follows m.t (lacking iris event) (tried tries event) = m.follows iris tries (h.follows m.s was) in
+      let sp : Spends now.flights m.t.last (length m.t.held) (spent_with count event) = m.spends count (h.spends m.s was) in
+      let fo : Follows m.t (lacked_with iris event) (tried tries event) = m.follows iris tries (h.follows m.s was) in
       let few : length m.t.held ≤ 64 = omega (arith, sits.few, small) in
       record {
-        spends = λ s is. subst (λ (x : Session). Spends now.flights x.last (length x.held) (grown count event)) (same_value m.t s (sym (moved_at e) ∙ is)) sp;
-        small = spends-most now.flights m.t.last (length m.t.held) (grown count event) few sp;
-        follows = λ s is. subst (λ x. Follows x (lacking iris event) (tried tries event)) (same_value m.t s (sym (moved_at e) ∙ is)) fo;
+        spends = λ s is. subst (λ (x : Session). Spends now.flights x.last (length x.held) (spent_with count event)) (same_value m.t s (sym (moved_at e) ∙ is)) sp;
+        small = spends-most now.flights m.t.last (length m.t.held) (spent_with count event) few sp;
+        follows = λ s is. subst (λ x. Follows x (lacked_with iris event) (tried tries event)) (same_value m.t s (sym (moved_at e) ∙ is)) fo;
         differ = elim (idle_cases m.t.last) [
           | inl idle ↦ subst (IsDistinct (pointwise nat_eq)) (sym (m.rests idle iris tries).0) h.differ
           | inr busy ↦ subst (IsDistinct (pointwise nat_eq)) (sym (fo busy).0) sits.differ
@@ -129,8 +130,8 @@ module _ (limits : Limits) (small : limits.held ≤ 64) (store now : Store) (eve
 published_over : (version : ℕ) → end.Published version ≡ end.UnderWay → ⊥
 published_over version e = cc
 
-failed_over : end.Failed ≡ end.UnderWay → ⊥
-failed_over e = cc
+failed_over : (before after : ℕ) → end.Failed before after ≡ end.UnderWay → ⊥
+failed_over before after e = cc
 
 lapsed_over : end.Lapsed ≡ end.UnderWay → ⊥
 lapsed_over e = cc
@@ -154,9 +155,9 @@ module _ (limits : Limits) (small : limits.held ≤ 64) (store : Store) (h : Sou
   moved-alone (event.Published flight version) inside ok = cc
   moved-alone (event.Failed flight before after) inside ok =
       let p = read_fly store flight (read_fail store flight before after ok) in
-      moved-landed limits small store h.crew _ (event.Failed flight before after) flight end.Failed failed_over p refl (λ c. refl) (λ l. refl) (λ c. refl)
-      (ap (λ o. (with_flight store (landed store flight end.Failed) o).sessions) p.is)
-      (ap (λ o. (with_flight store (landed store flight end.Failed) o).flights) p.is)
+      moved-landed limits small store h.crew _ (event.Failed flight before after) flight (end.Failed before after) (failed_over before after) p refl (λ c. refl) (λ l. refl) (λ c. refl)
+      (ap (λ o. (with_flight store (landed store flight (end.Failed before after)) o).sessions) p.is)
+      (ap (λ o. (with_flight store (landed store flight (end.Failed before after)) o).flights) p.is)
   moved-alone (event.Lapsed flight) inside ok =
       let p = read_fly store flight ok in
       moved-landed limits small store h.crew _ (event.Lapsed flight) flight end.Lapsed lapsed_over p refl (λ c. refl) (λ l. refl) (λ c. refl)
@@ -220,18 +221,18 @@ module _ (limits : Limits) (small : limits.held ≤ 64) (front : Entries) (legal
       → Track limits (after (state front) entry).flights (after (state front) entry).sessions n (lacked n front) (attempts n front) (spent n front) → Next entry
   as_other entry e t =
       rw (
-        folded_other (λ iris (x : Entry (List ℕ) Given). lacking iris x.event) [] front entry n e,
+        folded_other (λ iris (x : Entry (List ℕ) Given). lacked_with iris x.event) [] front entry n e,
         folded_other (λ count (x : Entry (List ℕ) Given). tried count x.event) 0 front entry n e,
-        folded_other (λ count (x : Entry (List ℕ) Given). grown count x.event) 0 front entry n e,
+        folded_other (λ count (x : Entry (List ℕ) Given). spent_with count x.event) 0 front entry n e,
       ) t
 
   as_mine : (entry : Entry (List ℕ) Given) → owner (state front) entry.event ≡ n
-      → Track limits (after (state front) entry).flights (after (state front) entry).sessions n (lacking (lacked n front) entry.event) (tried (attempts n front) entry.event) (grown (spent n front) entry.event) → Next entry
+      → Track limits (after (state front) entry).flights (after (state front) entry).sessions n (lacked_with (lacked n front) entry.event) (tried (attempts n front) entry.event) (spent_with (spent n front) entry.event) → Next entry
   as_mine entry e t =
       rw (
-        folded_mine (λ iris (x : Entry (List ℕ) Given). lacking iris x.event) [] front entry n e,
+        folded_mine (λ iris (x : Entry (List ℕ) Given). lacked_with iris x.event) [] front entry n e,
         folded_mine (λ count (x : Entry (List ℕ) Given). tried count x.event) 0 front entry n e,
-        folded_mine (λ count (x : Entry (List ℕ) Given). grown count x.event) 0 front entry n e,
+        folded_mine (λ count (x : Entry (List ℕ) Given). spent_with count x.event) 0 front entry n e,
       ) t
 
   by_moved : (entry : Entry (List ℕ) Given) → allows limits (state front) entry ≡ true → is_inside entry.event ≡ true → Next entry

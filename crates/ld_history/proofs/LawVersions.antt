@@ -11,10 +11,11 @@ use Rattle.ld_history.specs.declared.event.Entry.{Entry}
 use Rattle.ld_history.specs.declared.session.Flight.{Flight}
 use Rattle.ld_history.specs.Store.{Store, empty_store}
 use Rattle.ld_history.specs.Words.{flight_at}
-use Rattle.ld_history.specs.Rules.{allows_alone, allows_with, allows_given, allows}
+use Rattle.ld_history.specs.Rules.{allows_with}
 use Rattle.ld_history.specs.After.{after, after_event, with_flight}
-use Rattle.ld_history.specs.Legal.{replay, state, Legal, LegalFrom}
-use Rattle.ld_history.specs.Counts.{Entries, makes_version, versions_made, pin, pins}
+use Rattle.ld_history.specs.Legal.{replay, state, Entries}
+use Rattle.ld_history.specs.Counts.{makes_version, versions_made, pin, pins}
+use Rattle.ld_history.specs.ByTurns.{allows_alone, allows_given, allows, Legal, LegalFrom}
 use Rattle.ld_history.proofs.LawReads.{read_fail, read_fly, read_publish, read_evict, read_same, read_pin, Flies}
 
 -- how many versions an event makes

@@ -21,9 +21,9 @@ use Rattle.ld_history.specs.declared.session.End.TheVariants as end
 use Rattle.ld_history.specs.Store.{Store}
 use Rattle.ld_history.specs.Words.{at_number, at_iri, flight_at, is_some_and, is_under_way, is_led_by, has_flight}
 use Rattle.ld_history.specs.Rules.{on_flight}
-use Rattle.ld_history.specs.Legal.{IsKept, state}
-use Rattle.ld_history.specs.Counts.{Entries}
-use Rattle.ld_history.specs.Leading.{leads_now, is_leading, LeadersWait}
+use Rattle.ld_history.specs.Legal.{state, Entries}
+use Rattle.ld_history.specs.ByTurns.{IsKept}
+use Rattle.ld_history.specs.Leading.{leads_now, is_leading, LeadIsLast}
 use Rattle.ld_history.proofs.LawReads.{some_and, both, under_way_is}
 use Rattle.ld_history.proofs.LawAirborne.{pick}
 use Rattle.ld_history.proofs.LawCrew.{leads_it}
@@ -108,5 +108,5 @@ module _ (limits : Limits) (store : Store) (h : Sound limits store) (session : �
   leader_waits = either (cases_Bool (has_flight store session)) (cases_Bool (is_leading store session))
 
 -- where the state is that of a legal history
-pub leaders_wait : (limits : Limits) (entries : Entries) (store : Store) → IsKept limits entries store → LeadersWait store
-leaders_wait limits entries store kept = subst LeadersWait (sym kept.replayed) (λ session. leader_waits limits (state entries) (sound limits entries kept.legal) session)
+pub leaders_wait : (limits : Limits) (entries : Entries) (store : Store) → IsKept limits entries store → LeadIsLast store
+leaders_wait limits entries store kept = subst LeadIsLast (sym kept.replayed) (λ session. leader_waits limits (state entries) (sound limits entries kept.legal) session)

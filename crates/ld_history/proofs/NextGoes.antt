@@ -20,8 +20,8 @@ use Rattle.ld_history.specs.declared.session.Stored.{Stored}
 use Rattle.ld_history.specs.Store.{Store}
 use Rattle.ld_history.specs.Words.{at_iri, is_some_and, is_stored, places, archive_has_room, may_go, none_before, is_next_out}
 use Rattle.ld_history.specs.Rules.{none_may_go, is_full}
-use Rattle.ld_history.specs.Legal.{state, Legal}
-use Rattle.ld_history.specs.Counts.{Entries}
+use Rattle.ld_history.specs.Legal.{state, Entries}
+use Rattle.ld_history.specs.ByTurns.{Legal}
 use Rattle.ld_history.specs.Steps.{taken, plain, ending, led, led_after, joining, missing, next_out}
 use Rattle.ld_history.proofs.LawReads.{both}
 use Rattle.ld_history.proofs.LawSound.{sound}

@@ -1,25 +1,19 @@
 -- An Evicted and the event of its session that follows on it change the session once.
-use Rattle.std.proofs.Common.{◌≡◌, ℕ, ◌+◌, List, [], ◌∷◌, ◌++◌, refl, sym, ap, ◌∙◌, arith, Option, Some, None, true}
+use Rattle.std.proofs.Common.{◌≡◌, ℕ, ◌+◌, List, [], ◌∷◌, ◌++◌, refl, sym, ap, ◌∙◌, arith, Option, Some, None}
 use Rattle.std.specs.Map.{set_value}
 use Rattle.std.specs.BTreeMap.{is_at}
 use Rattle.std.specs.Ordering.{nat_cmp}
-use Rattle.ld_history.specs.declared.limits.Limits.{Limits}
-use Rattle.ld_history.specs.declared.event.Given.{Given}
-use Rattle.ld_history.specs.declared.event.Entry.{Entry}
 use Rattle.ld_history.specs.declared.event.Event.TheVariants as event
 use Rattle.ld_history.specs.declared.session.Session.{Session}
 use Rattle.ld_history.specs.declared.session.Last.TheVariants as last
 use Rattle.ld_history.specs.declared.plans.Replacement.{Replacement}
 use Rattle.ld_history.specs.Store.{Store}
 use Rattle.ld_history.specs.Words.{at_number}
-use Rattle.ld_history.specs.Rules.{allows}
-use Rattle.ld_history.specs.Legal.{IsKept}
 use Rattle.ld_history.specs.After.{after, after_led, after_evicted, after_answered, changed, change_found, told, holding, turned, take_iri}
 use Rattle.ld_history.specs.Steps.{plain}
 use Rattle.ld_history.specs.Plans.{goes_out, comes_in, told_out}
 use Rattle.ld_history.proofs.LawCrew.{set_number_same}
 use Rattle.ld_history.proofs.Unturned.{set_twice}
-use Rattle.ld_history.proofs.Whole.{kept-push}
 
 module _ (sessions : List (ℕ × Session)) (n : ℕ) (g h : Session → Session) where
   twice_by : (o : Option Session) → at_number sessions n ≡ o → changed (change_found sessions n g o) n h ≡ change_found sessions n (λ s. h (g s)) o
@@ -55,9 +49,3 @@ pub dismissed : (store new : Store) (session request version : ℕ) (iri : List 
 dismissed store new session request version iri is =
     let sum : store.events + 2 ≡ store.events + 1 + 1 = omega arith in
     is ∙ ap (λ n. record (after_answered (after_evicted store session iri version) session) { events = n; evicted = None }) sum
-
--- two entries at the end of a history
-pub kept_two : (limits : Limits) (entries : List (Entry (List ℕ) Given)) (first second : Entry (List ℕ) Given) (store new : Store) → IsKept limits entries store
-    → allows limits store first ≡ true → allows limits (after store first) second ≡ true → new ≡ after (after store first) second → IsKept limits ((entries ++ first ∷ []) ++ second ∷ []) new
-kept_two limits entries first second store new kept one two is =
-    kept-push limits (entries ++ first ∷ []) second (after store first) new (kept-push limits entries first store (after store first) kept one refl) two is

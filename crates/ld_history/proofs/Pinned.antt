@@ -5,9 +5,8 @@ use Rattle.ld_history.specs.declared.limits.Limits.{Limits}
 use Rattle.ld_history.specs.declared.event.How.{How}
 use Rattle.ld_history.specs.declared.session.Session.{Session}
 use Rattle.ld_history.specs.Words.{at_number, is_some_and, is_pinned, has_request, has_flight}
-use Rattle.ld_history.specs.Rules.{may_say, may_answer}
-use Rattle.ld_history.specs.Legal.{state, Legal}
-use Rattle.ld_history.specs.Counts.{Entries}
+use Rattle.ld_history.specs.ByTurns.{may_say, may_answer, Legal}
+use Rattle.ld_history.specs.Legal.{state, Entries}
 use Rattle.ld_history.proofs.LawReads.{pinned_is, under_way_is}
 use Rattle.ld_history.proofs.LawCrew.{leads_it, quiet_leader}
 use Rattle.ld_history.proofs.LawSound.{sound}

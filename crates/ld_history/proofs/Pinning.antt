@@ -9,9 +9,9 @@ use Rattle.ld_history.specs.declared.event.Event.TheVariants as event
 use Rattle.ld_history.specs.declared.session.Session.{Session}
 use Rattle.ld_history.specs.Store.{Store}
 use Rattle.ld_history.specs.Words.{at_number, is_some_and, is_idle, history_has_room}
-use Rattle.ld_history.specs.Rules.{allows, may_pin, may_pin_again, begins, goes_on}
-use Rattle.ld_history.specs.Legal.{History, state, IsKept}
-use Rattle.ld_history.specs.Counts.{Entries}
+use Rattle.ld_history.specs.Rules.{may_pin, may_pin_again, begins, goes_on}
+use Rattle.ld_history.specs.Legal.{History, state, Entries}
+use Rattle.ld_history.specs.ByTurns.{allows, IsKept}
 use Rattle.ld_history.specs.Steps.{Taken, plain, taken, where_, of_found, of_session, pinned, pinning_first, pinning}
 use Rattle.ld_history.specs.Choices.{answer_of}
 

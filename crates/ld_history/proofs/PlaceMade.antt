@@ -12,10 +12,11 @@ use Rattle.ld_history.specs.declared.session.Session.{Session}
 use Rattle.ld_history.specs.declared.session.Last.TheVariants as last
 use Rattle.ld_history.specs.declared.session.Stored.{Stored}
 use Rattle.ld_history.specs.Store.{Store}
-use Rattle.ld_history.specs.Words.{at_number, at_iri, is_some_and, same_iri, is_pinned, is_stored, is_led, places, archive_has_room, may_go, none_before, is_next_out, was_stored}
-use Rattle.ld_history.specs.Rules.{lacks, made_place, has_place, may_lead, may_evict}
+use Rattle.ld_history.specs.Words.{at_number, at_iri, is_some_and, same_iri, is_pinned, is_stored, is_led, places, archive_has_room, may_go, none_before, is_next_out}
+use Rattle.ld_history.specs.Rules.{place_was_made, has_place, may_evict}
 use Rattle.ld_history.specs.After.{after, turned, turn_found}
 use Rattle.ld_history.specs.Steps.{plain, next_out}
+use Rattle.ld_history.specs.ByTurns.{was_stored, lacks, may_lead}
 use Rattle.ld_history.proofs.LawReads.{some_and, both}
 use Rattle.ld_history.proofs.LawFlights.{iri_cases, take_iri_other}
 use Rattle.ld_history.proofs.LawTurns.{set_iri_other, is_in}
@@ -75,7 +76,7 @@ module _ (limits : Limits) (store : Store) (session : ℕ) (iri out : List ℕ) 
         let gone : is_some_and (is_in s.version) (at_iri (turned store.turns out (store.version + 1)) iri) ≡ false = ap (is_some_and (is_in s.version)) same ∙ old in
         and_from _ _ (and_from _ _ (not_from_false _ gone) first.1) parts.1
 
-    place_made : made_place limits (after store (plain (event.Evicted session out (store.version + 1)))) session iri ≡ true
+    place_made : place_was_made limits (after store (plain (event.Evicted session out (store.version + 1)))) session iri ≡ true
     place_made = and_from _ _ (and_from _ _ (and_from _ _ (eq-eqb session session refl) full) next) (not_from_false _ (differ store iri out is_there absent))
 
     place_had : has_place limits (after store (plain (event.Evicted session out (store.version + 1)))) iri (length store.flights + 1) ≡ true

@@ -12,9 +12,9 @@ use Rattle.ld_history.specs.declared.session.Flying.{Flying}
 use Rattle.ld_history.specs.declared.session.Kind.TheVariants as kind
 use Rattle.ld_history.specs.Store.{Store}
 use Rattle.ld_history.specs.Words.{at_number, at_iri, is_some_and, is_pinned, is_stored, is_led, is_revised, archive_has_room}
-use Rattle.ld_history.specs.Rules.{allows, allows_alone, has_pinned, may_revise, is_revising}
-use Rattle.ld_history.specs.Legal.{History, state, Legal, IsKept}
-use Rattle.ld_history.specs.Counts.{Entries}
+use Rattle.ld_history.specs.Rules.{has_pinned, may_revise, is_revising}
+use Rattle.ld_history.specs.Legal.{History, state, Entries}
+use Rattle.ld_history.specs.ByTurns.{allows, allows_alone, Legal, IsKept}
 use Rattle.ld_history.specs.Steps.{Taken, plain, taken, where_, of_found, ending, revising, revising_unrevised, revising_stored, revise_step}
 use Rattle.ld_history.specs.Choices.{pinned_request, revise_event}
 use Rattle.ld_history.proofs.LawSound.{sound}

@@ -14,12 +14,12 @@ use Rattle.ld_history.specs.declared.session.Flight.{Flight}
 use Rattle.ld_history.specs.declared.session.Flying.{Flying}
 use Rattle.ld_history.specs.declared.session.Kind.TheVariants as kind
 use Rattle.ld_history.specs.Words.{at_number, at_iri, is_some_and, is_pinned, is_lead, is_under_way, is_stored, is_held, is_revised, holds, least_holder}
-use Rattle.ld_history.specs.Rules.{is_least_holder, may_answer, may_evict, may_say}
+use Rattle.ld_history.specs.Rules.{is_least_holder, may_evict}
 use Rattle.ld_history.specs.After.{after}
-use Rattle.ld_history.specs.Legal.{state, Legal}
-use Rattle.ld_history.specs.Counts.{Entries}
+use Rattle.ld_history.specs.Legal.{state, Entries}
+use Rattle.ld_history.specs.ByTurns.{may_answer, may_say, Legal}
 use Rattle.ld_history.specs.Steps.{plain, ending, where_, evicting_stored, evicting_unheld, evicting_unrevised, of_found}
-use Rattle.ld_history.specs.Plans.{AllowsStep, evicting}
+use Rattle.ld_history.specs.Plans.{AllowsStep, evict_found}
 use Rattle.ld_history.proofs.LawSound.{sound}
 use Rattle.ld_history.proofs.LawFlights.{iri_cases}
 use Rattle.ld_history.proofs.LawCrew.{changed_same}
@@ -95,5 +95,5 @@ module _ (limits : Limits) (entries : Entries) (legal : Legal limits entries) (s
   session_allowed None is = tt
   session_allowed (Some s) is = open_allowed s is
 
-  pub evict_allowed : AllowsStep limits (state entries) (evicting (state entries) session iri)
+  pub evict_allowed : AllowsStep limits (state entries) (evict_found (state entries) session iri)
   evict_allowed = session_allowed (at_number (state entries).sessions session) refl

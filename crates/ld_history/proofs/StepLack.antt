@@ -8,12 +8,12 @@ use Rattle.ld_history.specs.declared.event.How.TheVariants as how
 use Rattle.ld_history.specs.declared.answers.LackAnswer.TheVariants as lack_answer
 use Rattle.ld_history.specs.declared.session.Session.{Session}
 use Rattle.ld_history.specs.declared.session.Flying.{Flying}
-use Rattle.ld_history.specs.Words.{at_number, at_iri, is_some_and, is_pinned, is_stored, places, archive_has_room, was_stored}
-use Rattle.ld_history.specs.Rules.{lacks, has_place, is_full, may_find, may_join, may_lead, may_say}
-use Rattle.ld_history.specs.Legal.{state, Legal}
-use Rattle.ld_history.specs.Counts.{Entries}
-use Rattle.ld_history.specs.Steps.{taken, plain, ending, led, led_after, leading, joining, missing, next_out, may_lack, of_found}
-use Rattle.ld_history.specs.Plans.{AllowsStep, lacking}
+use Rattle.ld_history.specs.Words.{at_number, at_iri, is_some_and, is_pinned, is_stored, places, archive_has_room}
+use Rattle.ld_history.specs.Rules.{has_place, is_full}
+use Rattle.ld_history.specs.Legal.{state, Entries}
+use Rattle.ld_history.specs.ByTurns.{was_stored, lacks, may_find, may_join, may_lead, may_say, Legal, may_lack, lack_found}
+use Rattle.ld_history.specs.Steps.{taken, plain, ending, led, led_after, leading, joining, missing, next_out, of_found}
+use Rattle.ld_history.specs.Plans.{AllowsStep}
 use Rattle.ld_history.specs.declared.event.Event.TheVariants as event
 use Rattle.ld_history.proofs.LawReads.{both}
 use Rattle.ld_history.proofs.LawSound.{sound}
@@ -121,5 +121,5 @@ module _ (limits : Limits) (entries : Entries) (legal : Legal limits entries) (s
   session_allowed None is = tt
   session_allowed (Some s) is = open_allowed s is
 
-  pub lack_allowed : AllowsStep limits (state entries) (lacking limits (state entries) session iri)
+  pub lack_allowed : AllowsStep limits (state entries) (lack_found limits (state entries) session iri)
   lack_allowed = session_allowed (at_number (state entries).sessions session) refl

@@ -4,9 +4,9 @@ use Rattle.ld_history.specs.declared.limits.Limits.{Limits}
 use Rattle.ld_history.specs.declared.event.Given.{Given}
 use Rattle.ld_history.specs.declared.event.Entry.{Entry}
 use Rattle.ld_history.specs.Store.{Store, empty_store}
-use Rattle.ld_history.specs.Rules.{allows}
+use Rattle.ld_history.specs.ByTurns.{allows, LegalFrom, IsKept}
 use Rattle.ld_history.specs.After.{after}
-use Rattle.ld_history.specs.Legal.{replay, LegalFrom, AreWithin, IsKept}
+use Rattle.ld_history.specs.Legal.{replay, AreWithin}
 
 pub replay-push : (store : Store) (entries : List (Entry (List ℕ) Given)) (entry : Entry (List ℕ) Given) → replay store (entries ++ entry ∷ []) ≡ after (replay store entries) entry
 replay-push store [] entry = refl

@@ -2,18 +2,14 @@
 use Rattle.std.specs.Prelude.{ℕ, ◌+◌, ◌-◌, ◌==◌, ◌&&◌, Bool, true, false, if◌then◌else◌, List, [], ◌∷◌, ◌++◌, unwrap_or, count_by}
 use Rattle.std.specs.List.{fold}
 use Rattle.std.specs.Option.{option_map}
-use Rattle.ld_history.specs.declared.event.Given.{Given}
 use Rattle.ld_history.specs.declared.event.Event.{Event}
 use Rattle.ld_history.specs.declared.event.Event.TheVariants as event
-use Rattle.ld_history.specs.declared.event.Entry.{Entry}
 use Rattle.ld_history.specs.declared.session.Flight.{Flight}
 use Rattle.ld_history.specs.declared.session.Session.{Session}
 use Rattle.ld_history.specs.Store.{Store, empty_store}
 use Rattle.ld_history.specs.Words.{flight_at, is_under_way, is_lead, has_request}
 use Rattle.ld_history.specs.After.{after}
-
-abbrev pub Entries : Type 0
-Entries = List (Entry (List ℕ) Given)
+use Rattle.ld_history.specs.Legal.{Entries}
 
 -- Published and Evicted entries make a version each.
 abbrev pub makes_version : Event (List ℕ) → Bool
@@ -70,25 +66,25 @@ own session entries = own_from empty_store session entries
 -- is begun anew at a first Pinned.
 
 -- how many entries the request has appended, with one more; Opened and Closed are no request's
-abbrev pub grown : ℕ → Event (List ℕ) → ℕ
-grown count (event.Opened session seat) = 0
-grown count (event.Pinned session request attempt version) = if attempt == 1 then 1 else count + 1
-grown count (event.Closed session) = 0
-grown count _ = count + 1
+abbrev pub spent_with : ℕ → Event (List ℕ) → ℕ
+spent_with count (event.Opened session seat) = 0
+spent_with count (event.Pinned session request attempt version) = if attempt == 1 then 1 else count + 1
+spent_with count (event.Closed session) = 0
+spent_with count _ = count + 1
 
 abbrev pub spent : ℕ → Entries → ℕ
-spent session entries = fold (λ count entry. grown count entry.event) 0 (own session entries)
+spent session entries = fold (λ count entry. spent_with count entry.event) 0 (own session entries)
 
 -- the IRIs that the request lacked: those that it found, led or joined
-abbrev pub lacking : List (List ℕ) → Event (List ℕ) → List (List ℕ)
-lacking iris (event.Pinned session request attempt version) = if attempt == 1 then [] else iris
-lacking iris (event.Found session iri) = iris ++ iri ∷ []
-lacking iris (event.Led session iri flight) = iris ++ iri ∷ []
-lacking iris (event.Joined session iri flight) = iris ++ iri ∷ []
-lacking iris _ = iris
+abbrev pub lacked_with : List (List ℕ) → Event (List ℕ) → List (List ℕ)
+lacked_with iris (event.Pinned session request attempt version) = if attempt == 1 then [] else iris
+lacked_with iris (event.Found session iri) = iris ++ iri ∷ []
+lacked_with iris (event.Led session iri flight) = iris ++ iri ∷ []
+lacked_with iris (event.Joined session iri flight) = iris ++ iri ∷ []
+lacked_with iris _ = iris
 
 abbrev pub lacked : ℕ → Entries → List (List ℕ)
-lacked session entries = fold (λ iris entry. lacking iris entry.event) [] (own session entries)
+lacked session entries = fold (λ iris entry. lacked_with iris entry.event) [] (own session entries)
 
 -- how many attempts the request made
 abbrev pub tried : ℕ → Event (List ℕ) → ℕ

@@ -15,16 +15,16 @@ abbrev pub are_numbered : ℕ → List ℕ → Bool
 are_numbered opened numbers = list_all (λ n. nat_le n opened) numbers && nat_le (length numbers) opened
 
 -- where the session sits
-abbrev pub seat_of : List (ℕ × Session) → ℕ → Option ℕ
-seat_of sessions n = option_map (λ s. s.seat) (at_number sessions n)
+abbrev pub sits_at : List (ℕ × Session) → ℕ → Option ℕ
+sits_at sessions n = option_map (λ s. s.seat) (at_number sessions n)
 
 pub record IsIndex (sessions : List (ℕ × Session)) (index : Index) : Type 0 where
   pub sorted : IsStrictlySortedBy nat_cmp (keys_of sessions)
   pub few : length sessions < 2 ^ 32
   pub busy : index.busy ≡ count_by has_request (values_of sessions)
   -- a session sits in its seat, and who sits in a seat is a session
-  pub seated : (n seat : ℕ) → seat_of sessions n ≡ Some seat → at_number index.seats.entries seat ≡ Some n
-  pub sits : (seat n : ℕ) → at_number index.seats.entries seat ≡ Some n → seat_of sessions n ≡ Some seat
+  pub seated : (n seat : ℕ) → sits_at sessions n ≡ Some seat → at_number index.seats.entries seat ≡ Some n
+  pub sits : (seat n : ℕ) → at_number index.seats.entries seat ≡ Some n → sits_at sessions n ≡ Some seat
   -- an idle session holds nothing, and the holders of an IRI are the sessions that hold it
   pub idle : (n : ℕ) (s : Session) → at_number sessions n ≡ Some s → is_idle s.last ≡ true → s.held ≡ []
   pub filled : AreFilled index.holders.entries

@@ -8,10 +8,8 @@ use Rattle.ld_history.specs.declared.session.Last.{Last}
 use Rattle.ld_history.specs.declared.session.Last.TheVariants as last
 use Rattle.ld_history.specs.declared.session.Flight.{Flight}
 use Rattle.ld_history.specs.Store.{Store}
-use Rattle.ld_history.specs.Words.{at_number, flight_at, is_under_way, is_published}
-use Rattle.ld_history.specs.Rules.{allows}
-use Rattle.ld_history.specs.Legal.{state}
-use Rattle.ld_history.specs.Counts.{Entries}
+use Rattle.ld_history.specs.Words.{at_number, flight_at, is_under_way, is_published, holds}
+use Rattle.ld_history.specs.Legal.{Entries, is_allowed}
 
 -- the flight of this number is under way
 abbrev pub IsUnderWay : Store → ℕ → Flight → Type 0
@@ -20,6 +18,12 @@ IsUnderWay store number flight = (flight_at store.flights number ≡ Some flight
 -- the session is open, as s
 abbrev pub IsOpenAs : Store → ℕ → Session → Type 0
 IsOpenAs store session s = at_number store.sessions session ≡ Some s
+
+-- the session is open and holds the IRI
+pub record IsHolder (store : Store) (session : ℕ) (iri : List ℕ) : Type 0 where
+  pub s : Session
+  pub is : IsOpenAs store session s
+  pub has : IsTrue (holds s iri)
 
 -- no flight that the session led is under way
 abbrev pub LeadsNothing : Store → ℕ → Type 0
@@ -43,5 +47,5 @@ pub record WasLeft (store : Store) (s : Session) (iri : List ℕ) : Type 0 where
 
 -- the entry is allowed after these, and within the limit
 pub record MayFollow (limits : Limits) (entries : Entries) (entry : Entry (List ℕ) Given) : Type 0 where
-  pub allowed : IsTrue (allows limits (state entries) entry)
+  pub allowed : IsTrue (is_allowed limits entries entry)
   pub room : length entries + 1 ≤ limits.events

@@ -16,5 +16,5 @@ abbrev pub is_leading : Store → ℕ → Bool
 is_leading store session = on_session store session (λ s. leads_now store session s.last)
 
 -- A session's flight under way is that of its last own event. So it is after each legal history.
-abbrev pub LeadersWait : Store → Type 0
-LeadersWait store = (session : ℕ) → has_flight store session ≡ is_leading store session
+abbrev pub LeadIsLast : Store → Type 0
+LeadIsLast store = (session : ℕ) → has_flight store session ≡ is_leading store session

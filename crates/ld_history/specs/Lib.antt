@@ -6,11 +6,16 @@ pub mod After
 pub mod Legal
 pub mod Seen
 pub mod Counts
+pub mod Ahead
+pub mod Ready
 pub mod Holders
 pub mod Index
 pub mod Leading
 pub mod Order
 pub mod Laws
+pub mod Seats
+pub mod SeatsStay
 pub mod Steps
+pub mod ByTurns
 pub mod Choices
 pub mod Plans

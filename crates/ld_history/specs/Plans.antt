@@ -1,5 +1,5 @@
 -- What the code plans, as the step that it is.
-use Rattle.std.specs.Prelude.{◌≡◌, ℕ, ◌≤◌, if◌then◌else◌, List, [], ◌∷◌, ◌-◌, take, length, Option, Some, None}
+use Rattle.std.specs.Prelude.{◌≡◌, ℕ, ◌≤◌, List, [], ◌∷◌, ◌-◌, take, length, Option, Some, None}
 use Rattle.std.specs.Map.{set_value}
 use Rattle.std.specs.BTreeMap.{is_at}
 use Rattle.ld_tree.specs.Names.{name_cmp}
@@ -19,8 +19,8 @@ use Rattle.ld_history.specs.declared.plans.EvictPlan.TheVariants as evict_plan
 use Rattle.ld_history.specs.declared.session.Session.{Session}
 use Rattle.ld_history.specs.Store.{Store}
 use Rattle.ld_history.specs.Words.{at_number, at_iri, is_pinned}
-use Rattle.ld_history.specs.Legal.{LegalFrom}
-use Rattle.ld_history.specs.Steps.{Taken, taken, plain, of_session, where_, may_lack, missing, evicting_stored}
+use Rattle.ld_history.specs.ByTurns.{LegalFrom}
+use Rattle.ld_history.specs.Steps.{Taken, taken, plain, of_session, where_, evicting_stored}
 
 abbrev pub goes_out : Replacement → Event (List ℕ)
 goes_out r = event.Evicted r.session r.out r.version
@@ -28,14 +28,10 @@ goes_out r = event.Evicted r.session r.out r.version
 abbrev pub comes_in : Replacement → Event (List ℕ)
 comes_in r = event.Led r.session r.iri r.flight
 
-abbrev pub lack_taken : LackPlan → Taken LackAnswer
-lack_taken (lack_plan.One answer event) = taken answer (plain event ∷ [])
-lack_taken (lack_plan.Replace r) =
+abbrev pub lack_planned : LackPlan → Taken LackAnswer
+lack_planned (lack_plan.One answer event) = taken answer (plain event ∷ [])
+lack_planned (lack_plan.Replace r) =
     taken (lack_answer.Led r.flight (Some (record { iri = r.out; version = r.version }))) (plain (goes_out r) ∷ plain (comes_in r) ∷ [])
-
--- the step of a lack, over a state
-abbrev pub lacking : Limits → Store → ℕ → List ℕ → Option (Taken LackAnswer)
-lacking limits store session iri = of_session store session (λ s. if may_lack store iri s then missing limits store session iri s else None)
 
 -- the answer to a request whose context went out with this version
 abbrev pub told_out : ℕ → ℕ → ℕ → Event (List ℕ)
@@ -46,8 +42,8 @@ evict_taken session iri (evict_plan.One answer event) = taken answer (plain even
 evict_taken session iri (evict_plan.Evict request version) =
     taken (evict_answer.Evicted version) (plain (event.Evicted session iri version) ∷ plain (told_out session request version) ∷ [])
 
-abbrev pub evicting : Store → ℕ → List ℕ → Option (Taken EvictAnswer)
-evicting store session iri = of_session store session (λ s. where_ (is_pinned s.last) (evicting_stored store session iri s))
+abbrev pub evict_found : Store → ℕ → List ℕ → Option (Taken EvictAnswer)
+evict_found store session iri = of_session store session (λ s. where_ (is_pinned s.last) (evicting_stored store session iri s))
 
 -- no open session holds more than it may
 abbrev pub AreFew : Limits → Store → Type 0

@@ -1,4 +1,6 @@
--- Which entry may come next. The rules are the project's own.
+-- Which entry may come next. The rules are the project's own. What a version had they ask a test: `had iri
+-- version` says whether the IRI was in the store at that version. In a history it is the version's stock
+-- (Legal).
 use Rattle.std.specs.Prelude.{ℕ, ◌+◌, ◌-◌, ◌^◌, ◌==◌, nat_le, nat_lt, Bool, true, false, not, ◌&&◌, ◌||◌, List, length, Option, Some, None}
 use Rattle.std.specs.List.{list_any, list_all}
 use Rattle.std.specs.Map.{keys_of}
@@ -16,7 +18,11 @@ use Rattle.ld_history.specs.declared.session.Last.{Last}
 use Rattle.ld_history.specs.declared.session.Last.TheVariants as last
 use Rattle.ld_history.specs.declared.session.End.{End}
 use Rattle.ld_history.specs.Store.{Store}
-use Rattle.ld_history.specs.Words.{at_number, at_iri, flight_at, is_some_and, same_iri, is_idle, is_pinned, has_request, is_lead, is_under_way, is_published, is_published_as, is_failed, is_same, is_stored, is_led, is_revised, places, history_has_room, archive_has_room, least_holder, may_go, was_stored, is_taken, has_flight, is_stored_answer}
+use Rattle.ld_history.specs.Words.{at_number, at_iri, flight_at, is_some_and, same_iri, is_idle, is_pinned, has_request, is_lead, is_under_way, is_published, is_published_as, is_failed, is_same, is_stored, is_led, is_revised, places, history_has_room, archive_has_room, least_holder, may_go, is_taken, has_flight, is_stored_answer}
+
+-- whether an IRI was in the store at a version
+abbrev pub Had : Type 0
+Had = List ℕ → ℕ → Bool
 
 -- the session is open and passes
 abbrev pub on_session : Store → ℕ → (Session → Bool) → Bool
@@ -73,17 +79,17 @@ may_pin limits store session request attempt version =
 
 -- the pinned version is without the IRI, which has at most 2,048 bytes, and this request holds fewer
 -- than it may
-abbrev pub lacks : Limits → Store → List ℕ → Session → Bool
-lacks limits store iri s = not (was_stored store iri s.version) && nat_le (length iri) 2048 && nat_lt (length s.held) limits.held
+abbrev pub lacks : Had → Limits → List ℕ → Session → Bool
+lacks had limits iri s = not (had iri s.version) && nat_le (length iri) 2048 && nat_lt (length s.held) limits.held
 
 -- 3 Found: the last own event is Pinned, at a version that lacks the IRI, which is stored now
-abbrev pub may_find : Limits → Store → ℕ → List ℕ → Bool
-may_find limits store session iri = on_session store session (λ s. is_pinned s.last && lacks limits store iri s && is_stored store iri)
+abbrev pub may_find : Had → Limits → Store → ℕ → List ℕ → Bool
+may_find had limits store session iri = on_session store session (λ s. is_pinned s.last && lacks had limits iri s && is_stored store iri)
 
 -- The entry just before is an Evicted of this session, and before it stored plus Lead flights was
 -- `contexts`; the IRI that went out was the next in the order of eviction, and is another one.
-abbrev pub made_place : Limits → Store → ℕ → List ℕ → Bool
-made_place limits store session iri =
+abbrev pub place_was_made : Limits → Store → ℕ → List ℕ → Bool
+place_was_made limits store session iri =
     is_some_and (λ e. (e.session == session) && (e.places == limits.contexts) && e.next && not (same_iri e.iri iri)) store.evicted
 
 -- The IRI is neither stored nor in a Lead flight under way; stored plus Lead flights is below
@@ -94,18 +100,18 @@ has_place limits store iri flight =
 
 -- 4 Led: as Found, but the IRI isn't stored and has a place. An Evicted that made the place stands for
 -- the Pinned before it.
-abbrev pub may_lead : Limits → Store → ℕ → List ℕ → ℕ → Bool
-may_lead limits store session iri flight =
-    on_session store session (λ s. (is_pinned s.last || made_place limits store session iri) && lacks limits store iri s && has_place limits store iri flight)
+abbrev pub may_lead : Had → Limits → Store → ℕ → List ℕ → ℕ → Bool
+may_lead had limits store session iri flight =
+    on_session store session (λ s. (is_pinned s.last || place_was_made limits store session iri) && lacks had limits iri s && has_place limits store iri flight)
 
 -- the IRI is in this Lead flight under way
 abbrev pub is_led_as : Store → List ℕ → ℕ → Bool
 is_led_as store iri flight = is_some_and (λ lead. lead.flight == flight) (at_iri store.leads iri)
 
 -- 5 Joined: as Found, but the IRI is in this Lead flight under way
-abbrev pub may_join : Limits → Store → ℕ → List ℕ → ℕ → Bool
-may_join limits store session iri flight =
-    on_session store session (λ s. is_pinned s.last && lacks limits store iri s && is_led_as store iri flight)
+abbrev pub may_join : Had → Limits → Store → ℕ → List ℕ → ℕ → Bool
+may_join had limits store session iri flight =
+    on_session store session (λ s. is_pinned s.last && lacks had limits iri s && is_led_as store iri flight)
 
 -- 6 Published: the flight is under way, the version is one more and the answer's length is at most
 -- 1,048,577; for a Revise flight, url, length or mark differ from the stored
@@ -190,37 +196,37 @@ has_evicted version _ = false
 
 -- How a request may be answered, of which session s has one under way. All but the first two and the
 -- last four also need that the last own event is Pinned.
-abbrev pub may_say : Limits → Store → Session → How (List ℕ) → Bool
+abbrev pub may_say : Had → Limits → Store → Session → How (List ℕ) → Bool
 -- the last own event is Pinned
-may_say limits store s how.Done = is_pinned s.last
+may_say had limits store s how.Done = is_pinned s.last
 -- always
-may_say limits store s how.NoMemory = true
+may_say had limits store s how.NoMemory = true
 -- the last own event is Led, Joined or ReviseLed of this flight, and it Failed
-may_say limits store s (how.LoadFault flight) = waits_for flight s.last && has_failed store flight
+may_say had limits store s (how.LoadFault flight) = waits_for flight s.last && has_failed store flight
 -- this request holds `held` IRIs and the IRI isn't in the pinned version
-may_say limits store s (how.TooMany iri) = is_pinned s.last && (length s.held == limits.held) && not (was_stored store iri s.version)
+may_say had limits store s (how.TooMany iri) = is_pinned s.last && (length s.held == limits.held) && not (had iri s.version)
 -- stored plus Lead flights is `contexts`, and every stored IRI is held or in a Revise flight under way
-may_say limits store s how.StoreFull = is_pinned s.last && is_full limits store
+may_say had limits store s how.StoreFull = is_pinned s.last && is_full limits store
 -- the archive is full with these kept bytes
-may_say limits store s (how.ArchiveFull bytes) = is_pinned s.last && not (archive_has_room limits store) && (bytes == store.bytes)
+may_say had limits store s (how.ArchiveFull bytes) = is_pinned s.last && not (archive_has_room limits store) && (bytes == store.bytes)
 -- the version is the current one
-may_say limits store s (how.NotStored version) = is_pinned s.last && (version == store.version)
+may_say had limits store s (how.NotStored version) = is_pinned s.last && (version == store.version)
 -- some stored IRI is held, and this is the least session that holds it
-may_say limits store s (how.Held session) = is_pinned s.last && holds_first store session
+may_say had limits store s (how.Held session) = is_pinned s.last && holds_first store session
 -- it is a Revise flight under way
-may_say limits store s (how.Revising flight) = is_pinned s.last && is_revising store flight
-may_say limits store s (how.Flying flight) = is_pinned s.last && is_revising store flight
+may_say had limits store s (how.Revising flight) = is_pinned s.last && is_revising store flight
+may_say had limits store s (how.Flying flight) = is_pinned s.last && is_revising store flight
 -- the last own event is Evicted with this version
-may_say limits store s (how.Evicted version) = has_evicted version s.last
+may_say had limits store s (how.Evicted version) = has_evicted version s.last
 -- the last own event is ReviseLed, and the flight is Published with this version
-may_say limits store s (how.Revised version) = revised_as store version s.last
+may_say had limits store s (how.Revised version) = revised_as store version s.last
 -- the last own event is ReviseLed, and the flight is Same
-may_say limits store s how.Same = revised_same store s.last
+may_say had limits store s how.Same = revised_same store s.last
 
 -- 12 Answered: the request is under way, no flight that it led is, and it may be answered so
-abbrev pub may_answer : Limits → Store → ℕ → ℕ → How (List ℕ) → Bool
-may_answer limits store session request how =
-    on_session store session (λ s. has_request s && (request == s.request) && not (has_flight store session) && may_say limits store s how)
+abbrev pub may_answer : Had → Limits → Store → ℕ → ℕ → How (List ℕ) → Bool
+may_answer had limits store session request how =
+    on_session store session (λ s. has_request s && (request == s.request) && not (has_flight store session) && may_say had limits store s how)
 
 -- 13 Closed: the session is open and has no request under way
 abbrev pub may_close : Store → ℕ → Bool
@@ -233,26 +239,26 @@ allows_with store given (event.Same flight) = may_be_same store flight given
 allows_with store given _ = false
 
 -- whether it may come next with no answer
-abbrev pub allows_alone : Limits → Store → Event (List ℕ) → Bool
-allows_alone limits store (event.Opened session seat) = may_open limits store session seat
-allows_alone limits store (event.Pinned session request attempt version) = may_pin limits store session request attempt version
-allows_alone limits store (event.Found session iri) = may_find limits store session iri
-allows_alone limits store (event.Led session iri flight) = may_lead limits store session iri flight
-allows_alone limits store (event.Joined session iri flight) = may_join limits store session iri flight
-allows_alone limits store (event.Published flight version) = false
-allows_alone limits store (event.Failed flight before after) = may_fail store flight before after
-allows_alone limits store (event.Lapsed flight) = may_lapse store flight
-allows_alone limits store (event.Evicted session iri version) = may_evict store session iri version
-allows_alone limits store (event.ReviseLed session iri flight) = may_revise limits store session iri flight
-allows_alone limits store (event.Same flight) = false
-allows_alone limits store (event.Answered session request how) = may_answer limits store session request how
-allows_alone limits store (event.Closed session) = may_close store session
+abbrev pub allows_alone : Had → Limits → Store → Event (List ℕ) → Bool
+allows_alone had limits store (event.Opened session seat) = may_open limits store session seat
+allows_alone had limits store (event.Pinned session request attempt version) = may_pin limits store session request attempt version
+allows_alone had limits store (event.Found session iri) = may_find had limits store session iri
+allows_alone had limits store (event.Led session iri flight) = may_lead had limits store session iri flight
+allows_alone had limits store (event.Joined session iri flight) = may_join had limits store session iri flight
+allows_alone had limits store (event.Published flight version) = false
+allows_alone had limits store (event.Failed flight before after) = may_fail store flight before after
+allows_alone had limits store (event.Lapsed flight) = may_lapse store flight
+allows_alone had limits store (event.Evicted session iri version) = may_evict store session iri version
+allows_alone had limits store (event.ReviseLed session iri flight) = may_revise limits store session iri flight
+allows_alone had limits store (event.Same flight) = false
+allows_alone had limits store (event.Answered session request how) = may_answer had limits store session request how
+allows_alone had limits store (event.Closed session) = may_close store session
 
 -- An answer of a flight is there exactly for Published and Same.
-abbrev pub allows_given : Limits → Store → Event (List ℕ) → Option Given → Bool
-allows_given limits store event (Some given) = allows_with store given event
-allows_given limits store event None = allows_alone limits store event
+abbrev pub allows_given : Had → Limits → Store → Event (List ℕ) → Option Given → Bool
+allows_given had limits store event (Some given) = allows_with store given event
+allows_given had limits store event None = allows_alone had limits store event
 
--- the entry may come next after the entries that made this state
-abbrev pub allows : Limits → Store → Entry (List ℕ) Given → Bool
-allows limits store entry = allows_given limits store entry.event entry.given
+-- the entry may come next after the entries that made this state, and told what versions had
+abbrev pub allows : Had → Limits → Store → Entry (List ℕ) Given → Bool
+allows had limits store entry = allows_given had limits store entry.event entry.given

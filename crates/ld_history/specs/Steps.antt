@@ -30,9 +30,9 @@ use Rattle.ld_history.specs.declared.session.Last.TheVariants as last
 use Rattle.ld_history.specs.declared.session.End.{End}
 use Rattle.ld_history.specs.declared.session.End.TheVariants as end
 use Rattle.ld_history.specs.Store.{Store}
-use Rattle.ld_history.specs.Words.{at_number, at_iri, flight_at, is_idle, is_pinned, is_lead, is_under_way, is_stored, places, history_has_room, archive_has_room, least_holder, is_next_out, was_stored, is_taken, is_stored_answer}
-use Rattle.ld_history.specs.Rules.{end_of, may_pin_again, may_fail, may_lapse, may_answer, may_close, is_full}
-use Rattle.ld_history.specs.Legal.{History, state}
+use Rattle.ld_history.specs.Words.{at_number, at_iri, flight_at, is_idle, is_pinned, is_lead, is_under_way, is_stored, places, history_has_room, archive_has_room, least_holder, is_next_out, is_taken, is_stored_answer}
+use Rattle.ld_history.specs.Rules.{Had, end_of, may_pin_again, may_fail, may_lapse, may_answer, may_close, is_full}
+use Rattle.ld_history.specs.Legal.{History, state, is_in_stock}
 
 -- what an allowed step answers, and the entries that it appends
 pub record Taken (A : Type 0) : Type 0 where
@@ -146,13 +146,15 @@ missing limits store session iri s =
     else if is_stored store iri then Some (taken lack_answer.There (plain (event.Found session iri) ∷ []))
     else joining limits store session iri s (at_iri store.leads iri)
 
-abbrev pub may_lack : Store → List ℕ → Session → Bool
-may_lack store iri s = is_pinned s.last && not (was_stored store iri s.version) && nat_le (length iri) 2048
+abbrev pub may_lack : Had → List ℕ → Session → Bool
+may_lack had iri s = is_pinned s.last && not (had iri s.version) && nat_le (length iri) 2048
+
+-- the step of a lack, in a state
+abbrev pub lack_taken : Had → Limits → Store → ℕ → List ℕ → Option (Taken LackAnswer)
+lack_taken had limits store session iri = of_session store session (λ s. if may_lack had iri s then missing limits store session iri s else None)
 
 abbrev pub lack_step : History → ℕ → List ℕ → Option (Taken LackAnswer)
-lack_step history session iri =
-    let store : Store = state history.entries in
-    of_session store session (λ s. if may_lack store iri s then missing history.limits store session iri s else None)
+lack_step history session iri = lack_taken (is_in_stock history.entries) history.limits (state history.entries) session iri
 
 -- ---- publish: the flight is under way, and the answer's length is at most 1,048,577
 
@@ -182,10 +184,12 @@ lapse_step history flight = where_ (may_lapse (state history.entries) flight) (t
 
 -- ---- answer: the rules allow that the request is answered so. The step answers the request's number.
 
+-- the step of an answer, in a state
+abbrev pub answer_taken : Had → Limits → Store → ℕ → How (List ℕ) → Option (Taken ℕ)
+answer_taken had limits store session how = of_session store session (λ s. where_ (may_answer had limits store session s.request how) (ending session s s.request how))
+
 abbrev pub answer_step : History → ℕ → How (List ℕ) → Option (Taken ℕ)
-answer_step history session how =
-    let store : Store = state history.entries in
-    of_session store session (λ s. where_ (may_answer history.limits store session s.request how) (ending session s s.request how))
+answer_step history session how = answer_taken (is_in_stock history.entries) history.limits (state history.entries) session how
 
 -- ---- evict: the last own event is Pinned. Whatever it answers, the request is answered.
 
@@ -242,14 +246,14 @@ close_step history session = where_ (may_close (state history.entries) session) 
 -- ---- how a request ends by itself, where it has nothing more to do
 
 abbrev pub load_outcome : ℕ → Option End → Option (How (List ℕ))
-load_outcome flight (Some end.Failed) = Some (how.LoadFault flight)
+load_outcome flight (Some (end.Failed before after)) = Some (how.LoadFault flight)
 load_outcome flight (Some end.Lapsed) = Some how.NoMemory
 load_outcome flight _ = None
 
 abbrev pub revision_outcome : ℕ → Option End → Option (How (List ℕ))
 revision_outcome flight (Some (end.Published version)) = Some (how.Revised version)
 revision_outcome flight (Some end.Same) = Some how.Same
-revision_outcome flight (Some end.Failed) = Some (how.LoadFault flight)
+revision_outcome flight (Some (end.Failed before after)) = Some (how.LoadFault flight)
 revision_outcome flight (Some end.Lapsed) = Some how.NoMemory
 revision_outcome flight _ = None
 

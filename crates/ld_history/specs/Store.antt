@@ -25,7 +25,8 @@ pub record Store : Type 0 where
   pub revisions : List (List ℕ × Flying)
   -- what is stored now, by IRI
   pub stored : List (List ℕ × Stored)
-  -- for each IRI that was ever led, the versions at which it came into the store and went out, in turn
+  -- for each IRI that was ever led, the versions at which it came into the store and went out, in turn: the
+  -- code's index of what a version had. A rule asks no more of it than whether an IRI was ever led.
   pub turns : List (List ℕ × List ℕ)
   -- the last entry, where it is an Evicted
   pub evicted : Option Eviction

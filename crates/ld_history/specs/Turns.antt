@@ -1,4 +1,4 @@
--- The versions at which an IRI came into the store and went out of it.
+-- The versions at which an IRI came into the store and went out of it, as the code counts them.
 use Rattle.std.specs.Prelude.{ℕ, nat_le, Bool, true, ◌&&◌, List, [], ◌∷◌, count_by}
 use Rattle.std.specs.List.{list_all}
 

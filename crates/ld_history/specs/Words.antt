@@ -1,5 +1,5 @@
 -- The words that the rules are written in.
-use Rattle.std.specs.Prelude.{ℕ, zero, suc, ◌+◌, ◌*◌, ◌%◌, ◌==◌, nat_le, nat_eq, Bool, true, false, not, ◌&&◌, ◌||◌, List, length, slice_get, Option, Some, None, is_some, count_by}
+use Rattle.std.specs.Prelude.{ℕ, zero, suc, ◌+◌, ◌*◌, ◌==◌, nat_le, nat_eq, Bool, true, false, not, ◌&&◌, ◌||◌, List, length, slice_get, Option, Some, None, is_some, count_by}
 use Rattle.std.specs.List.{list_any, list_all, find}
 use Rattle.std.specs.Option.{option_map}
 use Rattle.std.specs.Ordering.{nat_cmp}
@@ -19,7 +19,6 @@ use Rattle.ld_history.specs.declared.session.Kind.TheVariants as kind
 use Rattle.ld_history.specs.declared.session.End.{End}
 use Rattle.ld_history.specs.declared.session.End.TheVariants as end
 use Rattle.ld_history.specs.Store.{Store}
-use Rattle.ld_history.specs.Turns.{turns_until}
 
 -- what stands at a number, and at an IRI
 abbrev pub at_number : {X : Type 0} → List (ℕ × X) → ℕ → Option X
@@ -70,7 +69,7 @@ is_published (end.Published version) = true
 is_published _ = false
 
 abbrev pub is_failed : End → Bool
-is_failed end.Failed = true
+is_failed (end.Failed before after) = true
 is_failed _ = false
 
 abbrev pub is_same : End → Bool
@@ -132,10 +131,6 @@ none_before store version = list_all (λ e. not (may_go store e.0) || nat_le ver
 -- The order of eviction: of the stored IRIs that may go, the one that was published at the least version.
 abbrev pub is_next_out : Store → List ℕ → Bool
 is_next_out store iri = is_some_and (λ out. may_go store iri && none_before store out.version) (at_iri store.stored iri)
-
--- An IRI is in a version exactly where an odd number of its turns came with it or before it.
-abbrev pub was_stored : Store → List ℕ → ℕ → Bool
-was_stored store iri version = is_some_and (λ turns. turns_until turns version % 2 == 1) (at_iri store.turns iri)
 
 -- an open session has this seat
 abbrev pub is_taken : Store → ℕ → Bool

@@ -8,6 +8,8 @@ ghost use Rattle.ld_history.specs.Holders.{Holders, held_by, AreFilled, IsCleare
 ghost use Rattle.ld_history.specs.Order.{IsOrder, IsFree, IsHeldAlike, is_among};
 ghost use Rattle.ld_history.specs.After as after;
 ghost use Rattle.ld_history.specs.Store.{empty_store};
+ghost use Rattle.ld_history.specs.Ready.{is_ending};
+ghost use Rattle.ld_history.specs.Steps.{plain};
 ghost use Rattle.ld_history.specs.Seen.{seen};
 
 use crate::event::{Entry, Event};
@@ -28,6 +30,7 @@ impl Tables {
         ensures { seen result ≡ empty_store }
     {
         Tables {
+            alloc,
             version: 0,
             events: 0,
             bytes: 0,
@@ -208,14 +211,6 @@ impl Tables {
                 Some(given) => self.published(*flight, *version, given),
                 None => Ok(()),
             },
-            Event::Failed { flight, .. } => {
-                self.landed(*flight, End::Failed);
-                Ok(())
-            }
-            Event::Lapsed { flight } => {
-                self.landed(*flight, End::Lapsed);
-                Ok(())
-            }
             Event::Evicted {
                 session,
                 iri,
@@ -230,14 +225,50 @@ impl Tables {
                 self.landed(*flight, End::Same);
                 Ok(())
             }
-            Event::Answered { session, .. } => {
-                self.answered(alloc, *session);
+            Event::Failed { .. }
+            | Event::Lapsed { .. }
+            | Event::Answered { .. }
+            | Event::Closed { .. } => {
+                self.end(event);
                 Ok(())
             }
-            Event::Closed { session } => {
-                self.closed(*session);
-                Ok(())
+        }
+    }
+
+    /// The tables after an event that the rules allow and that ends something. Takes no memory.
+    pub fn take_end(&mut self, event: &Event<Name>)
+        requires ends { is_ending event.now ≡ true }
+        requires change { after.ReliesOn (seen self.old) event.now }
+        requires events { self.old.events + 1 < 2 ^ 64 }
+        ensures { seen self.new ≡ after.after (seen self.old) (plain event.now) }
+    {
+        let events = self.events + 1;
+        self.end(event);
+        self.events = events;
+        self.evicted = None;
+    }
+
+    fn end(&mut self, event: &Event<Name>)
+        requires ends { is_ending event.now ≡ true }
+        requires change { after.ReliesOn (seen self.old) event.now }
+        ensures { seen self.new ≡ after.after_event (seen self.old) None event.now }
+    {
+        match event {
+            Event::Failed {
+                flight,
+                before,
+                after,
+            } => {
+                let how = End::Failed {
+                    before: *before,
+                    after: *after,
+                };
+                self.landed(*flight, how);
             }
+            Event::Lapsed { flight } => self.landed(*flight, End::Lapsed),
+            Event::Answered { session, .. } => self.answered(*session),
+            Event::Closed { session } => self.closed(*session),
+            _ => {}
         }
     }
 
@@ -396,10 +427,10 @@ impl Tables {
         Ok(())
     }
 
-    pub fn answered(&mut self, alloc: Global, session: u32)
+    pub fn answered(&mut self, session: u32)
         ensures { seen self.new ≡ after.after_answered (seen self.old) session }
     {
-        let held = release(alloc, &mut self.sessions, &mut self.index, session);
+        let held = release(self.alloc, &mut self.sessions, &mut self.index, session);
         refresh_all(
             &mut self.order,
             &self.stored,

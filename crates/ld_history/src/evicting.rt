@@ -3,7 +3,7 @@ ghost use Rattle.std.specs.Prelude.{◌≡◌, option_map, List, ℕ};
 ghost use Rattle.ld_history.specs.Seen.{seen};
 ghost use Rattle.ld_history.specs.Steps as steps;
 ghost use Rattle.ld_history.specs.Choices.{CanCount};
-ghost use Rattle.ld_history.specs.Plans.{evicting, evict_taken};
+ghost use Rattle.ld_history.specs.Plans.{evict_found, evict_taken};
 ghost use Rattle.ld_history.specs.Words.{at_iri, least_holder};
 
 use crate::answers::EvictAnswer;
@@ -17,7 +17,7 @@ impl Tables {
     /// None where the session's last own event isn't Pinned.
     pub fn evicting(&self, session: u32, iri: &Name) -> Option<EvictPlan>
         requires { CanCount (seen self.now) }
-        ensures { option_map (evict_taken session iri.now) result ≡ evicting (seen self.now) session iri.now }
+        ensures { option_map (evict_taken session iri.now) result ≡ evict_found (seen self.now) session iri.now }
     {
         match self.session(session) {
             Some(s) => if s.last.is_pinned() {

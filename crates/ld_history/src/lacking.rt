@@ -3,8 +3,9 @@ ghost use Rattle.std.specs.Prelude.{◌≡◌, ◌+◌, ◌≤◌, [], ◌∷◌
 ghost use Rattle.ld_history.specs.Seen.{seen};
 ghost use Rattle.ld_history.specs.Steps as steps;
 ghost use Rattle.ld_history.specs.Choices.{CanCount};
-ghost use Rattle.ld_history.specs.Plans.{lacking, lack_taken, AreFew};
+ghost use Rattle.ld_history.specs.Plans.{lack_planned, AreFew};
 ghost use Rattle.ld_history.specs.Words.{at_iri};
+ghost use Rattle.ld_history.specs.ByTurns.{lack_found, may_lack};
 
 use crate::answers::LackAnswer;
 use crate::event::{Event, How};
@@ -26,7 +27,7 @@ impl Tables {
     ) -> Result<Option<LackPlan>, NoMemory>
         requires few { AreFew limits.now (seen self.now) }
         requires count { CanCount (seen self.now) }
-        ensures { IfOk result (λ plan. option_map lack_taken plan ≡ lacking limits.now (seen self.now) session iri.now) }
+        ensures { IfOk result (λ plan. option_map lack_planned plan ≡ lack_found limits.now (seen self.now) session iri.now) }
     {
         match self.session(session) {
             Some(s) => if self.may_lack(iri, s) {
@@ -39,7 +40,7 @@ impl Tables {
     }
 
     fn may_lack(&self, iri: &Name, s: &Session) -> bool
-        ensures { result ≡ steps.may_lack (seen self.now) iri.now s.now }
+        ensures { result ≡ may_lack (seen self.now) iri.now s.now }
     {
         s.last.is_pinned()
             && !self.was_stored(iri, s.version)
@@ -55,7 +56,7 @@ impl Tables {
     ) -> Result<Option<LackPlan>, NoMemory>
         requires few { length s.now.held ≤ limits.now.held }
         requires count { CanCount (seen self.now) }
-        ensures { IfOk result (λ plan. option_map lack_taken plan ≡ steps.missing limits.now (seen self.now) session iri.now s.now) }
+        ensures { IfOk result (λ plan. option_map lack_planned plan ≡ steps.missing limits.now (seen self.now) session iri.now s.now) }
     {
         let held = s.held.as_slice().len();
         if held >= limits.held as usize {
@@ -77,7 +78,7 @@ impl Tables {
         s: &Session,
     ) -> Result<Option<LackPlan>, NoMemory>
         requires { CanCount (seen self.now) }
-        ensures { IfOk result (λ plan. option_map lack_taken plan ≡ steps.joining limits.now (seen self.now) session iri.now s.now (at_iri (seen self.now).leads iri.now)) }
+        ensures { IfOk result (λ plan. option_map lack_planned plan ≡ steps.joining limits.now (seen self.now) session iri.now s.now (at_iri (seen self.now).leads iri.now)) }
     {
         match self.leads.get(iri) {
             Some(lead) => Ok(Some(joined(session, iri.share()?, lead.flight))),
@@ -93,7 +94,7 @@ impl Tables {
         s: &Session,
     ) -> Result<Option<LackPlan>, NoMemory>
         requires { CanCount (seen self.now) }
-        ensures { IfOk result (λ plan. option_map lack_taken plan ≡ steps.leading limits.now (seen self.now) session iri.now s.now) }
+        ensures { IfOk result (λ plan. option_map lack_planned plan ≡ steps.leading limits.now (seen self.now) session iri.now s.now) }
     {
         if self.is_full(limits) {
             return Ok(Some(ending(session, s, LackAnswer::StoreFull, How::StoreFull)));
@@ -113,7 +114,7 @@ impl Tables {
     fn replacing(&self, session: u32, iri: &Name, flight: u32) -> Result<Option<LackPlan>, NoMemory>
         requires count { CanCount (seen self.now) }
         requires next { flight ≡ length self.now.flights.items + 1 }
-        ensures { IfOk result (λ plan. option_map lack_taken plan ≡ steps.led_after (seen self.now) session iri.now (steps.next_out (seen self.now))) }
+        ensures { IfOk result (λ plan. option_map lack_planned plan ≡ steps.led_after (seen self.now) session iri.now (steps.next_out (seen self.now))) }
     {
         match self.next_out() {
             Some(out) => Ok(Some(LackPlan::Replace(Replacement {
@@ -129,7 +130,7 @@ impl Tables {
 }
 
 fn ending(session: u32, s: &Session, answer: LackAnswer, how: How<Name>) -> LackPlan
-    ensures { lack_taken result ≡ steps.ending session s.now answer how }
+    ensures { lack_planned result ≡ steps.ending session s.now answer how }
 {
     let request = s.request;
     LackPlan::One {
@@ -143,7 +144,7 @@ fn ending(session: u32, s: &Session, answer: LackAnswer, how: How<Name>) -> Lack
 }
 
 fn found(session: u32, iri: Name) -> LackPlan
-    ensures { lack_taken result ≡ steps.taken LackAnswer.There (steps.plain (Event.Found session iri) ∷ []) }
+    ensures { lack_planned result ≡ steps.taken LackAnswer.There (steps.plain (Event.Found session iri) ∷ []) }
 {
     LackPlan::One {
         answer: LackAnswer::There,
@@ -152,7 +153,7 @@ fn found(session: u32, iri: Name) -> LackPlan
 }
 
 fn joined(session: u32, iri: Name, flight: u32) -> LackPlan
-    ensures { lack_taken result ≡ steps.taken (LackAnswer.Joined flight) (steps.plain (Event.Joined session iri flight) ∷ []) }
+    ensures { lack_planned result ≡ steps.taken (LackAnswer.Joined flight) (steps.plain (Event.Joined session iri flight) ∷ []) }
 {
     LackPlan::One {
         answer: LackAnswer::Joined { flight },
@@ -165,7 +166,7 @@ fn joined(session: u32, iri: Name, flight: u32) -> LackPlan
 }
 
 fn led(session: u32, iri: Name, flight: u32) -> LackPlan
-    ensures { lack_taken result ≡ steps.taken (LackAnswer.Led flight None) (steps.plain (Event.Led session iri flight) ∷ []) }
+    ensures { lack_planned result ≡ steps.taken (LackAnswer.Led flight None) (steps.plain (Event.Led session iri flight) ∷ []) }
 {
     LackPlan::One {
         answer: LackAnswer::Led { flight, out: None },

@@ -1,6 +1,6 @@
 //! What holds after every legal history, whatever its limits. Each law is a contract over all lists of
 //! entries; the function that carries it does nothing.
-ghost use Rattle.std.specs.Prelude.{◌≡◌, ℕ, ◌+◌, ◌*◌, ◌-◌, ◌^◌, ◌<◌, ◌≤◌, ◌⊎◌, List, length, None, IsTrue, IsFalse};
+ghost use Rattle.std.specs.Prelude.{◌≡◌, ℕ, ◌+◌, ◌*◌, ◌-◌, ◌^◌, ◌<◌, ◌≤◌, ◌⊎◌, List, ◌++◌, length, Some, None, IsTrue, IsFalse};
 ghost use Rattle.std.specs.List.{IsDistinct, sum_by};
 ghost use Rattle.std.specs.List.Sorted.{IsNonDecreasing};
 ghost use Rattle.ld_history.specs.declared.event.Event.TheVariants as event;
@@ -8,10 +8,10 @@ ghost use Rattle.ld_history.specs.declared.event.How.TheVariants as how;
 ghost use Rattle.ld_history.specs.declared.limits.Limits.{Limits};
 ghost use Rattle.ld_history.specs.declared.session.Flight.{Flight};
 ghost use Rattle.ld_history.specs.declared.session.Session.{Session};
-ghost use Rattle.ld_history.specs.Words.{has_request, holds, is_lead, is_led, is_pinned, is_stored, same_iri, was_stored};
-ghost use Rattle.ld_history.specs.Legal.{state, Legal};
-ghost use Rattle.ld_history.specs.Counts.{Entries, versions_made, pins, leads_under_way, loads_under_way, lacked, attempts, spent, reserve};
-ghost use Rattle.ld_history.specs.Laws.{IsUnderWay, IsOpenAs, LeadsNothing, WasLeft, MayFollow};
+ghost use Rattle.ld_history.specs.Words.{flight_at, has_request, holds, is_lead, is_led, is_pinned, is_stored, least_holder, same_iri};
+ghost use Rattle.ld_history.specs.Legal.{Entries, state, Legal, AreWithin, is_in_stock, is_allowed};
+ghost use Rattle.ld_history.specs.Counts.{versions_made, pins, leads_under_way, loads_under_way, lacked, attempts, spent, reserve};
+ghost use Rattle.ld_history.specs.Laws.{IsUnderWay, IsOpenAs, IsHolder, LeadsNothing, WasLeft, MayFollow};
 
 /// The version is the number of Published and Evicted entries, and what a session pins never falls.
 pub fn versions_rise()
@@ -45,7 +45,7 @@ pub fn held_stays()
         → IsTrue (is_stored (state entries) iri) ⊎ (IsTrue (is_led (state entries) iri) ⊎ WasLeft (state entries) s iri) }
     ensures pinned { (limits : Limits) (entries : Entries) (session : ℕ) (s : Session) (iri : List ℕ) → Legal limits entries
         → IsOpenAs (state entries) session s → IsTrue (is_pinned s.last) → IsTrue (holds s iri)
-        → IsTrue (was_stored (state entries) iri s.version) }
+        → IsTrue (is_in_stock entries iri s.version) }
 {}
 
 /// The IRIs that one request lacks differ, and are at most `Limits::held`. So it makes at most one
@@ -93,4 +93,34 @@ pub fn ends_are_allowed()
     ensures closed { (limits : Limits) (entries : Entries) (session : ℕ) (s : Session) → limits.held ≤ 64 → Legal limits entries
         → IsOpenAs (state entries) session s → IsFalse (has_request s)
         → MayFollow limits entries (record { event = event.Closed session; given = None }) }
+{}
+
+/// Each front of a legal history is legal.
+pub fn fronts_are_legal()
+    ensures { (limits : Limits) (front back : Entries) → Legal limits (front ++ back) → Legal limits front }
+{}
+
+/// Under limits within the server's the number of a flight is below 2^32 - 1, so that of the next one fits too.
+pub fn flights_fit()
+    ensures { (limits : Limits) (entries : Entries) (number : ℕ) (flight : Flight) → AreWithin limits → Legal limits entries
+        → flight_at (state entries).flights number ≡ Some flight → number < 2 ^ 32 - 1 }
+{}
+
+/// The least holder of an IRI holds it, and none that holds it has a lesser number; there is none exactly
+/// where no session holds it.
+pub fn holders_are_least()
+    ensures holds { (limits : Limits) (entries : Entries) (iri : List ℕ) (holder : ℕ) → Legal limits entries
+        → least_holder (state entries) iri ≡ Some holder → IsHolder (state entries) holder iri }
+    ensures least { (limits : Limits) (entries : Entries) (iri : List ℕ) (holder session : ℕ) → Legal limits entries
+        → least_holder (state entries) iri ≡ Some holder → IsHolder (state entries) session iri → holder ≤ session }
+    ensures none { (limits : Limits) (entries : Entries) (iri : List ℕ) (session : ℕ) → Legal limits entries
+        → least_holder (state entries) iri ≡ None → IsHolder (state entries) session iri → ⊥ }
+{}
+
+/// The IRI of a TooMany is none that the request holds.
+pub fn too_many_is_new()
+    ensures { (limits : Limits) (entries : Entries) (session request : ℕ) (s : Session) (iri : List ℕ) → Legal limits entries
+        → IsOpenAs (state entries) session s
+        → IsTrue (is_allowed limits entries (record { event = event.Answered session request (how.TooMany iri); given = None }))
+        → IsFalse (holds s iri) }
 {}

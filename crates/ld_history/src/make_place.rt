@@ -52,20 +52,14 @@ impl Tables {
     }
 
     /// The tables after an Evicted and the Answered of its request.
-    pub fn evict(
-        &mut self,
-        alloc: Global,
-        session: u32,
-        iri: &Name,
-        version: u64,
-    ) -> Result<(), NoMemory>
+    pub fn evict(&mut self, session: u32, iri: &Name, version: u64) -> Result<(), NoMemory>
         requires version { self.old.version ≤ version }
         requires events { self.old.events + 2 < 2 ^ 64 }
         ensures ok { OnOk result (seen self.new ≡ record (after.after_answered (after.after_evicted (seen self.old) session iri.now version) session) { events = self.old.events + 2; evicted = None }) }
         ensures unchanged { OnErr result (seen self.new ≡ seen self.old) }
     {
         self.evicted(session, iri, version)?;
-        self.answered(alloc, session);
+        self.answered(session);
         self.events += 2;
         self.evicted = None;
         Ok(())

@@ -4,12 +4,13 @@ ghost use Rattle.ld_history.specs.Seen.{seen};
 ghost use Rattle.ld_history.specs.Steps as steps;
 
 use crate::event::How;
+use crate::name::Name;
 use crate::session::{End, Last};
 use crate::tables::Tables;
 
 impl Tables {
     /// The outcome of a session's request, by its last own event.
-    pub fn outcome(&self, session: u32) -> Option<How>
+    pub fn outcome(&self, session: u32) -> Option<How<Name>>
         ensures { result ≡ steps.of_session (seen self.now) session (λ s. steps.outcome_of (seen self.now) s.last) }
     {
         match self.session(session) {
@@ -18,7 +19,7 @@ impl Tables {
         }
     }
 
-    fn outcome_of(&self, last: Last) -> Option<How>
+    fn outcome_of(&self, last: Last) -> Option<How<Name>>
         ensures { result ≡ steps.outcome_of (seen self.now) last }
     {
         match last {
@@ -33,23 +34,23 @@ impl Tables {
     }
 }
 
-fn load_outcome(flight: u32, end: Option<End>) -> Option<How>
+fn load_outcome(flight: u32, end: Option<End>) -> Option<How<Name>>
     ensures { result ≡ steps.load_outcome flight end }
 {
     match end {
-        Some(End::Failed) => Some(How::LoadFault { flight }),
+        Some(End::Failed { .. }) => Some(How::LoadFault { flight }),
         Some(End::Lapsed) => Some(How::NoMemory),
         _ => None,
     }
 }
 
-fn revision_outcome(flight: u32, end: Option<End>) -> Option<How>
+fn revision_outcome(flight: u32, end: Option<End>) -> Option<How<Name>>
     ensures { result ≡ steps.revision_outcome flight end }
 {
     match end {
         Some(End::Published { version }) => Some(How::Revised { version }),
         Some(End::Same) => Some(How::Same),
-        Some(End::Failed) => Some(How::LoadFault { flight }),
+        Some(End::Failed { .. }) => Some(How::LoadFault { flight }),
         Some(End::Lapsed) => Some(How::NoMemory),
         _ => None,
     }

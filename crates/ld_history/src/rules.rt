@@ -1,11 +1,13 @@
 //! Which entry may come next: a function for each row of the rules, and the words they are made of.
 ghost use Rattle.std.specs.Prelude.{◌≡◌, true, ◌&&◌, option_copied};
 ghost use Rattle.std.specs.List.{list_any};
-ghost use Rattle.ld_history.specs.Words.{at_number, at_iri, flight_at, is_idle, is_pinned, has_request, is_lead, is_under_way, is_published, is_published_as, is_failed, is_same, is_stored, is_led, is_revised, places, flights_under_way, requests_under_way, history_has_room, archive_has_room, is_held, least_holder, may_go, is_next_out, was_stored, is_taken, has_flight, is_stored_answer};
+ghost use Rattle.ld_history.specs.Words.{at_number, at_iri, flight_at, is_idle, is_pinned, has_request, is_lead, is_under_way, is_published, is_published_as, is_failed, is_same, is_stored, is_led, is_revised, places, flights_under_way, requests_under_way, history_has_room, archive_has_room, is_held, least_holder, may_go, is_next_out, is_taken, has_flight, is_stored_answer};
 ghost use Rattle.ld_history.specs.Turns.{turns_until, is_rising};
 ghost use Rattle.ld_history.specs.Rules as rules;
-ghost use Rattle.ld_history.specs.Leading.{LeadersWait, leads_now};
+ghost use Rattle.ld_history.specs.ByTurns as by_turns;
+ghost use Rattle.ld_history.specs.Leading.{LeadIsLast, leads_now};
 ghost use Rattle.ld_history.specs.Seen.{seen};
+ghost use Rattle.ld_history.specs.ByTurns.{was_stored};
 
 use crate::event::{Entry, Event, How};
 use crate::limits::Limits;
@@ -91,7 +93,7 @@ impl End {
     fn is_failed(self) -> bool
         ensures { result ≡ is_failed self }
     {
-        matches!(self, End::Failed)
+        matches!(self, End::Failed { .. })
     }
 
     fn is_same(self) -> bool
@@ -211,7 +213,7 @@ impl Tables {
     }
 
     fn has_flight(&self, session: u32) -> bool
-        requires { LeadersWait (seen self.now) }
+        requires { LeadIsLast (seen self.now) }
         ensures { result ≡ has_flight (seen self.now) session }
     {
         match self.session(session) {
@@ -313,7 +315,7 @@ impl Tables {
     }
 
     fn lacks(&self, limits: &Limits, iri: &Name, s: &Session) -> bool
-        ensures { result ≡ rules.lacks limits.now (seen self.now) iri.now s.now }
+        ensures { result ≡ by_turns.lacks limits.now (seen self.now) iri.now s.now }
     {
         !self.was_stored(iri, s.version)
             && iri.as_iri().as_str().len() <= LONGEST_IRI
@@ -321,7 +323,7 @@ impl Tables {
     }
 
     pub fn may_find(&self, limits: &Limits, session: u32, iri: &Name) -> bool
-        ensures { result ≡ rules.may_find limits.now (seen self.now) session iri.now }
+        ensures { result ≡ by_turns.may_find limits.now (seen self.now) session iri.now }
     {
         match self.session(session) {
             Some(s) => s.last.is_pinned() && self.lacks(limits, iri, s) && self.is_stored(iri),
@@ -329,8 +331,8 @@ impl Tables {
         }
     }
 
-    fn made_place(&self, limits: &Limits, session: u32, iri: &Name) -> bool
-        ensures { result ≡ rules.made_place limits.now (seen self.now) session iri.now }
+    fn place_was_made(&self, limits: &Limits, session: u32, iri: &Name) -> bool
+        ensures { result ≡ rules.place_was_made limits.now (seen self.now) session iri.now }
     {
         match &self.evicted {
             Some(e) => e.session == session
@@ -358,10 +360,10 @@ impl Tables {
     }
 
     pub fn may_lead(&self, limits: &Limits, session: u32, iri: &Name, flight: u32) -> bool
-        ensures { result ≡ rules.may_lead limits.now (seen self.now) session iri.now flight }
+        ensures { result ≡ by_turns.may_lead limits.now (seen self.now) session iri.now flight }
     {
         match self.session(session) {
-            Some(s) => (s.last.is_pinned() || self.made_place(limits, session, iri))
+            Some(s) => (s.last.is_pinned() || self.place_was_made(limits, session, iri))
                 && self.lacks(limits, iri, s)
                 && self.has_place(limits, iri, flight),
             None => false,
@@ -378,7 +380,7 @@ impl Tables {
     }
 
     pub fn may_join(&self, limits: &Limits, session: u32, iri: &Name, flight: u32) -> bool
-        ensures { result ≡ rules.may_join limits.now (seen self.now) session iri.now flight }
+        ensures { result ≡ by_turns.may_join limits.now (seen self.now) session iri.now flight }
     {
         match self.session(session) {
             Some(s) => s.last.is_pinned()
@@ -546,7 +548,7 @@ impl Tables {
     }
 
     fn may_say(&self, limits: &Limits, s: &Session, how: &How<Name>) -> bool
-        ensures { result ≡ rules.may_say limits.now (seen self.now) s.now how.now }
+        ensures { result ≡ by_turns.may_say limits.now (seen self.now) s.now how.now }
     {
         match how {
             How::Done => s.last.is_pinned(),
@@ -572,8 +574,8 @@ impl Tables {
     }
 
     pub fn may_answer(&self, limits: &Limits, session: u32, request: u32, how: &How<Name>) -> bool
-        requires { LeadersWait (seen self.now) }
-        ensures { result ≡ rules.may_answer limits.now (seen self.now) session request how.now }
+        requires { LeadIsLast (seen self.now) }
+        ensures { result ≡ by_turns.may_answer limits.now (seen self.now) session request how.now }
     {
         match self.session(session) {
             Some(s) => s.has_request()
@@ -615,8 +617,8 @@ fn turns_until(turns: &[u64], version: u64) -> usize
 impl Tables {
     /// Whether the rules allow the entry after the history that made these tables.
     pub fn allows(&self, limits: &Limits, entry: &Entry<Name, Answer>) -> bool
-        requires { LeadersWait (seen self.now) }
-        ensures { result ≡ rules.allows limits.now (seen self.now) entry.now }
+        requires { LeadIsLast (seen self.now) }
+        ensures { result ≡ by_turns.allows limits.now (seen self.now) entry.now }
     {
         match &entry.given {
             Some(given) => self.allows_with(&entry.event, given),
@@ -635,8 +637,8 @@ impl Tables {
     }
 
     fn allows_alone(&self, limits: &Limits, event: &Event<Name>) -> bool
-        requires { LeadersWait (seen self.now) }
-        ensures { result ≡ rules.allows_alone limits.now (seen self.now) event.now }
+        requires { LeadIsLast (seen self.now) }
+        ensures { result ≡ by_turns.allows_alone limits.now (seen self.now) event.now }
     {
         match event {
             Event::Opened { session, seat } => self.may_open(limits, *session, *seat),

@@ -45,12 +45,17 @@ pub(crate) enum Kind {
     Revise,
 }
 
+/// How a flight has ended, if it has.
 #[derive(Clone, Copy, Debug, PartialEq, Eq)]
-pub(crate) enum End {
+pub enum End {
     UnderWay,
+    /// Its answer came into the store, which made this version.
     Published { version: u64 },
+    /// It was a revision, and its answer is the one that was stored.
     Same,
-    Failed,
+    /// Its load failed: the loader's count of faults rose from `before` to `after`.
+    Failed { before: u64, after: u64 },
+    /// It was given up for want of memory.
     Lapsed,
 }
 

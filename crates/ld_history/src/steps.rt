@@ -1,6 +1,7 @@
 //! The steps that sessions and flights take. Each asks what the rules allow next, and appends it.
-ghost use Rattle.std.specs.Prelude.{◌≡◌, None, IfOk, OnOk, OnErr};
+ghost use Rattle.std.specs.Prelude.{◌≡◌, None, is_some, true, IfOk, OnOk, OnErr};
 ghost use Rattle.ld_history.specs.Legal.{state};
+ghost use Rattle.ld_history.specs.Rules as rules;
 ghost use Rattle.ld_history.specs.Steps.{Answers, grown, plain, open_step, pin_step, publish_step, fail_step, lapse_step, answer_step, revise_step, close_step, outcome};
 
 mod evict;
@@ -11,8 +12,8 @@ use crate::choices::revise_event;
 use crate::event::{Entry, Event, Given, How};
 use crate::name::{Answer, Name};
 use crate::refusal::StepRefusal;
-use crate::state::{State, append};
-use ld_tree::Iri;
+use crate::state::{State, append, append_end};
+use ld_tree::{Iri, NoMemory};
 use std::alloc::Global;
 
 impl State {
@@ -87,68 +88,77 @@ impl State {
         Ok(answer)
     }
 
-    /// A flight's load failed: the loader's count of faults rose from `before` to `after`. Not allowed
-    /// where the flight isn't under way, or the counts didn't rise within 2^63 - 1 or stand there.
-    pub fn fail(
-        &mut self,
-        alloc: Global,
-        flight: u32,
-        before: u64,
-        after: u64,
-    ) -> Result<(), StepRefusal>
-        ensures answered { IfOk result (Answers (fail_step self.old flight before after)) }
-        ensures appended { OnOk result (self.new ≡ grown self.old (fail_step self.old flight before after)) }
-        ensures refused { result ≡ Err StepRefusal.NotAllowed → fail_step self.old flight before after ≡ None }
-        ensures unchanged { OnErr result (self.new ≡ self.old) }
+    /// Whether a flight may fail: it is under way, and the loader's count of faults rose within 2^63 - 1 or stands
+    /// there.
+    pub fn may_fail(&self, flight: u32, before: u64, after: u64) -> bool
+        ensures { result ≡ rules.may_fail (state self.now.entries) flight before after }
     {
-        if !self.tables.may_fail(flight, before, after) {
-            return Err(StepRefusal::NotAllowed);
-        }
-        let event = Event::Failed {
-            flight,
-            before,
-            after,
-        };
-        append(alloc, self, plain(event))?;
-        Ok(())
+        self.tables.may_fail(flight, before, after)
     }
 
-    /// A flight is given up for want of memory. Not allowed where it isn't under way.
-    pub fn lapse(&mut self, alloc: Global, flight: u32) -> Result<(), StepRefusal>
-        ensures answered { IfOk result (Answers (lapse_step self.old flight)) }
-        ensures appended { OnOk result (self.new ≡ grown self.old (lapse_step self.old flight)) }
-        ensures refused { result ≡ Err StepRefusal.NotAllowed → lapse_step self.old flight ≡ None }
-        ensures unchanged { OnErr result (self.new ≡ self.old) }
+    /// A flight's load failed: the loader's count of faults rose from `before` to `after`. Takes no memory.
+    pub fn fail(&mut self, flight: u32, before: u64, after: u64)
+        requires { rules.may_fail (state self.old.entries) flight before after ≡ true }
+        ensures { self.new ≡ grown self.old (fail_step self.old flight before after) }
     {
-        if !self.tables.may_lapse(flight) {
-            return Err(StepRefusal::NotAllowed);
-        }
-        append(alloc, self, plain(Event::Lapsed { flight }))?;
-        Ok(())
+        append_end(
+            self,
+            Event::Failed {
+                flight,
+                before,
+                after,
+            },
+        );
     }
 
-    /// The session's request is answered so. Answers the request's number. Not allowed where the rules
-    /// don't allow that it is answered so.
-    pub fn answer(&mut self, alloc: Global, session: u32, how: How) -> Result<u32, StepRefusal>
-        ensures answered { IfOk result (Answers (answer_step self.old session how)) }
-        ensures appended { OnOk result (self.new ≡ grown self.old (answer_step self.old session how)) }
-        ensures refused { result ≡ Err StepRefusal.NotAllowed → answer_step self.old session how ≡ None }
-        ensures unchanged { OnErr result (self.new ≡ self.old) }
+    /// Whether a flight may be given up: it is under way.
+    pub fn may_lapse(&self, flight: u32) -> bool
+        ensures { result ≡ rules.may_lapse (state self.now.entries) flight }
     {
-        let Some(request) = self.tables.request(session) else {
-            return Err(StepRefusal::NotAllowed);
-        };
-        let how = self.tables.keep_how(alloc, how)?;
-        if !self.tables.may_answer(&self.limits, session, request, &how) {
-            return Err(StepRefusal::NotAllowed);
+        self.tables.may_lapse(flight)
+    }
+
+    /// A flight is given up for want of memory. Takes none.
+    pub fn lapse(&mut self, flight: u32)
+        requires { rules.may_lapse (state self.old.entries) flight ≡ true }
+        ensures { self.new ≡ grown self.old (lapse_step self.old flight) }
+    {
+        append_end(self, Event::Lapsed { flight });
+    }
+
+    /// The IRI as the history keeps it: where it keeps an equal one, they share the text.
+    pub fn name(&self, alloc: Global, iri: Iri) -> Result<Name, NoMemory>
+        ensures { IfOk result (λ name. name ≡ iri) }
+    {
+        self.tables.name(alloc, iri)
+    }
+
+    /// Whether the rules allow that the session's request is answered so.
+    pub fn may_answer(&self, session: u32, how: &How<Name>) -> bool
+        ensures { result ≡ is_some (answer_step self.now session how.now) }
+    {
+        match self.tables.request(session) {
+            Some(request) => self.tables.may_answer(&self.limits, session, request, how),
+            None => false,
         }
-        let event = Event::Answered {
-            session,
-            request,
-            how,
-        };
-        append(alloc, self, plain(event))?;
-        Ok(request)
+    }
+
+    /// The session's request is answered so. Answers the request's number. Takes no memory.
+    pub fn answer(&mut self, session: u32, how: How<Name>) -> u32
+        requires { is_some (answer_step self.old session how) ≡ true }
+        ensures answered { Answers (answer_step self.old session how) result }
+        ensures appended { self.new ≡ grown self.old (answer_step self.old session how) }
+    {
+        let request = self.tables.request(session).unwrap();
+        append_end(
+            self,
+            Event::Answered {
+                session,
+                request,
+                how,
+            },
+        );
+        request
     }
 
     /// The request wants a stored context loaded anew: it leads a flight for it, or is answered why not.
@@ -174,18 +184,19 @@ impl State {
         Ok(answer)
     }
 
-    /// Closes the session. Not allowed where it isn't open or has a request under way.
-    pub fn close_session(&mut self, alloc: Global, session: u32) -> Result<(), StepRefusal>
-        ensures answered { IfOk result (Answers (close_step self.old session)) }
-        ensures appended { OnOk result (self.new ≡ grown self.old (close_step self.old session)) }
-        ensures refused { result ≡ Err StepRefusal.NotAllowed → close_step self.old session ≡ None }
-        ensures unchanged { OnErr result (self.new ≡ self.old) }
+    /// Whether the session may be closed: it is open and has no request under way.
+    pub fn may_close(&self, session: u32) -> bool
+        ensures { result ≡ rules.may_close (state self.now.entries) session }
     {
-        if !self.tables.may_close(session) {
-            return Err(StepRefusal::NotAllowed);
-        }
-        append(alloc, self, plain(Event::Closed { session }))?;
-        Ok(())
+        self.tables.may_close(session)
+    }
+
+    /// Closes the session. Takes no memory.
+    pub fn close_session(&mut self, session: u32)
+        requires { rules.may_close (state self.old.entries) session ≡ true }
+        ensures { self.new ≡ grown self.old (close_step self.old session) }
+    {
+        append_end(self, Event::Closed { session });
     }
 
     /// The number of the current version.
@@ -197,7 +208,7 @@ impl State {
 
     /// How the session's request ends by itself, where it waits for nothing more: Done where its last own
     /// event is Pinned, else by how the flight that it led, joined or revised has ended.
-    pub fn outcome(&self, session: u32) -> Option<How>
+    pub fn outcome(&self, session: u32) -> Option<How<Name>>
         ensures { result ≡ outcome self.now session }
     {
         self.tables.outcome(session)
@@ -205,7 +216,7 @@ impl State {
 }
 
 /// The event with no answer of a flight.
-fn plain(event: Event<Name>) -> Entry<Name, Answer>
+pub(crate) fn plain(event: Event<Name>) -> Entry<Name, Answer>
     ensures { result ≡ plain event }
 {
     Entry { event, given: None }

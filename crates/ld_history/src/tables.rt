@@ -11,11 +11,13 @@ use crate::name::Name;
 use crate::order::Order;
 use crate::session::{Eviction, Flight, Flying, Session, Stored};
 use ld_tree::Items;
+use std::alloc::Global;
 use std::collections::BTreeMap;
 
 /// The state after a history, kept so that a step finds what it needs.
 #[derive(Debug, Drop)]
 pub(crate) struct Tables {
+    pub alloc: Global,
     pub version: u64,
     pub events: u64,
     pub bytes: u64,

@@ -3,3 +3,4 @@ pub mod Arguments
 pub mod Lines
 pub mod Apart
 pub mod Scripts
+pub mod Decided

@@ -1,6 +1,6 @@
 //! What makes the outcome of a script exact. Each law is a contract over all texts; the function that
 //! carries it does nothing.
-ghost use Rattle.std.specs.Prelude.{◌≡◌, ℕ, List};
+ghost use Rattle.std.specs.Prelude.{◌≡◌, ◌⊎◌, ℕ, List};
 ghost use Rattle.ld_history.specs.declared.limits.Limits.{Limits};
 ghost use Rattle.ld_script.specs.declared.line.Line.{Line};
 ghost use Rattle.ld_script.specs.Scripts.{IsScript, IsBadAt};
@@ -17,4 +17,9 @@ pub fn script_is_one()
 pub fn bad_line_is_one()
     ensures one { (text : List ℕ) (a b : ℕ) → IsBadAt text a → IsBadAt text b → a ≡ b }
     ensures no_script { (text : List ℕ) (limits : Limits) (lines : List Line) (line : ℕ) → IsScript text limits lines → IsBadAt text line → ⊥ }
+{}
+
+/// Each text is a script, or has a first bad line.
+pub fn each_text_is_read()
+    ensures { (text : List ℕ) → ((limits : Limits) × (lines : List Line) × IsScript text limits lines) ⊎ ((line : ℕ) × IsBadAt text line) }
 {}

@@ -16,7 +16,7 @@ mod script;
 mod verb;
 mod word;
 
-pub use laws::{bad_line_is_one, script_is_one};
+pub use laws::{bad_line_is_one, each_text_is_read, script_is_one};
 pub use line::Line;
 pub use refusal::ScriptRefusal;
 pub use script::run_script;

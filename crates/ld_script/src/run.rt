@@ -56,12 +56,12 @@ fn run_line(alloc: Global, state: &mut State, line: Line, out: &mut Vec<u8>) -> 
             flight,
             before,
             after,
-        } => run_fail(alloc, state, flight, before, after, out),
-        Line::Lapse { flight } => run_lapse(alloc, state, flight, out),
+        } => run_fail(state, flight, before, after, out),
+        Line::Lapse { flight } => run_lapse(state, flight, out),
         Line::Evict { session, iri } => run_evict(alloc, state, session, iri, out),
         Line::Revise { session, iri } => run_revise(alloc, state, session, iri, out),
-        Line::Answer { session } => run_answer(alloc, state, session, out),
-        Line::Close { session } => run_close(alloc, state, session, out),
+        Line::Answer { session } => run_answer(state, session, out),
+        Line::Close { session } => run_close(state, session, out),
     }
 }
 
@@ -144,7 +144,6 @@ fn run_give(
 }
 
 fn run_fail(
-    alloc: Global,
     state: &mut State,
     flight: u32,
     before: u64,
@@ -154,25 +153,22 @@ fn run_fail(
     ensures printed { OnOk result (out.new.items ≡ out.old.items ++ (printed.step_of (line.Fail flight before after) state.old).printed) }
     ensures grown { OnOk result (state.new ≡ (printed.step_of (line.Fail flight before after) state.old).after) }
 {
-    match state.fail(alloc, flight, before, after) {
-        Ok(()) => print_line(b"failed", &[u64::from(flight)], out),
-        Err(refusal) => print_refused(refusal, out),
+    if !state.may_fail(flight, before, after) {
+        return print_not_allowed(out);
     }
+    state.fail(flight, before, after);
+    print_line(b"failed", &[u64::from(flight)], out)
 }
 
-fn run_lapse(
-    alloc: Global,
-    state: &mut State,
-    flight: u32,
-    out: &mut Vec<u8>,
-) -> Result<(), NoMemory>
+fn run_lapse(state: &mut State, flight: u32, out: &mut Vec<u8>) -> Result<(), NoMemory>
     ensures printed { OnOk result (out.new.items ≡ out.old.items ++ (printed.step_of (line.Lapse flight) state.old).printed) }
     ensures grown { OnOk result (state.new ≡ (printed.step_of (line.Lapse flight) state.old).after) }
 {
-    match state.lapse(alloc, flight) {
-        Ok(()) => print_line(b"lapsed", &[u64::from(flight)], out),
-        Err(refusal) => print_refused(refusal, out),
+    if !state.may_lapse(flight) {
+        return print_not_allowed(out);
     }
+    state.lapse(flight);
+    print_line(b"lapsed", &[u64::from(flight)], out)
 }
 
 fn run_evict(
@@ -208,35 +204,27 @@ fn run_revise(
     }
 }
 
-fn run_answer(
-    alloc: Global,
-    state: &mut State,
-    session: u32,
-    out: &mut Vec<u8>,
-) -> Result<(), NoMemory>
+fn run_answer(state: &mut State, session: u32, out: &mut Vec<u8>) -> Result<(), NoMemory>
     ensures printed { OnOk result (out.new.items ≡ out.old.items ++ (printed.step_of (line.Answer session) state.old).printed) }
     ensures grown { OnOk result (state.new ≡ (printed.step_of (line.Answer session) state.old).after) }
 {
     let Some(how) = state.outcome(session) else {
         return print_not_allowed(out);
     };
-    match state.answer(alloc, session, how) {
-        Ok(request) => print_line(b"answered", &[u64::from(session), u64::from(request)], out),
-        Err(refusal) => print_refused(refusal, out),
+    if !state.may_answer(session, &how) {
+        return print_not_allowed(out);
     }
+    let request = state.answer(session, how);
+    print_line(b"answered", &[u64::from(session), u64::from(request)], out)
 }
 
-fn run_close(
-    alloc: Global,
-    state: &mut State,
-    session: u32,
-    out: &mut Vec<u8>,
-) -> Result<(), NoMemory>
+fn run_close(state: &mut State, session: u32, out: &mut Vec<u8>) -> Result<(), NoMemory>
     ensures printed { OnOk result (out.new.items ≡ out.old.items ++ (printed.step_of (line.Close session) state.old).printed) }
     ensures grown { OnOk result (state.new ≡ (printed.step_of (line.Close session) state.old).after) }
 {
-    match state.close_session(alloc, session) {
-        Ok(()) => print_line(b"closed", &[u64::from(session)], out),
-        Err(refusal) => print_refused(refusal, out),
+    if !state.may_close(session) {
+        return print_not_allowed(out);
     }
+    state.close_session(session);
+    print_line(b"closed", &[u64::from(session)], out)
 }

@@ -172,17 +172,22 @@ fn begin(rt: &impl Abort, alloc: Global, limits: Limits) -> State
 }
 
 /// What the plain program says of the entry.
-fn plainly(state: &State, entry: &Entry) -> bool {
+fn plainly(rt: &impl Abort, alloc: Global, state: &State, entry: &Entry) -> bool {
+    let mut entries = Vec::new(alloc);
+    for place in 0..state.events() {
+        let kept = state.entry(place).expect(rt, "an entry");
+        assert!(rt; entries.push(kept).is_ok());
+    }
     let slow = Slow {
         limits: state.limits(),
-        entries: state.entries(),
+        entries: entries.as_slice(),
     };
     slow.allows(entry)
 }
 
 /// The entry has to be allowed.
 fn may(rt: &impl Abort, alloc: Global, state: &mut State, entry: Entry) {
-    assert!(rt; plainly(state, &entry));
+    assert!(rt; plainly(rt, alloc, state, &entry));
     let outcome = step(alloc, state, entry);
     assert_eq!(rt; outcome, Ok(()));
 }
@@ -190,7 +195,7 @@ fn may(rt: &impl Abort, alloc: Global, state: &mut State, entry: Entry) {
 /// The entry has to be refused, for want of what the words name.
 fn may_not(rt: &impl Abort, alloc: Global, state: &mut State, entry: Entry, why: &str) {
     let before = state.events();
-    assert!(rt; !plainly(state, &entry), "{why}");
+    assert!(rt; !plainly(rt, alloc, state, &entry), "{why}");
     let outcome = step(alloc, state, entry);
     assert_eq!(rt; outcome, Err(StepRefusal::NotAllowed), "{why}");
     assert_eq!(rt; state.events(), before, "{why}");

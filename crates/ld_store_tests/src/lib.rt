@@ -1,11 +1,9 @@
-//! The tests of what stands in the store, of its history and of scripts. They stand in a crate of their
-//! own, since a crate with tests is proved twice: here only the tests are.
+//! The tests of the store's history and of scripts. They stand in a crate of their own, since a crate with
+//! tests is proved twice: here only the tests are.
 #![tactic(auto)]
 
 #[cfg(test)]
 mod history;
-#[cfg(test)]
-mod placed;
 #[cfg(test)]
 mod scripts;
 #[cfg(test)]

@@ -7,7 +7,7 @@ use ld_history::{Answer, Entry, Event, Given, How, Limits, Name};
 #[derive(Clone, Copy)]
 pub struct Slow<'a> {
     pub limits: Limits,
-    pub entries: &'a [Entry<Name, Answer>],
+    pub entries: &'a [&'a Entry<Name, Answer>],
 }
 
 /// The event is one of those that may be a session's last own event, and is this session's.

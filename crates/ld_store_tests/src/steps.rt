@@ -1,7 +1,7 @@
 ghost use Rattle.ld_history.specs.Legal.{AreWithin};
 
 use ld_history::{
-    EvictAnswer, Given, How, LackAnswer, Limits, OpenAnswer, PinAnswer, PublishAnswer,
+    End, EvictAnswer, Given, How, LackAnswer, Limits, OpenAnswer, PinAnswer, PublishAnswer,
     ReviseAnswer, State, StepRefusal,
 };
 use ld_tree::{Iri, Items, Text};
@@ -84,9 +84,25 @@ fn publishes(
     assert_eq!(rt; answer, Ok(PublishAnswer::Published { version }));
 }
 
-fn answers(rt: &impl Abort, alloc: Global, state: &mut State, session: u32, request: u32) {
+fn answers(rt: &impl Abort, state: &mut State, session: u32, request: u32) {
     let how = state.outcome(session).expect(rt, "an outcome");
-    assert_eq!(rt; state.answer(alloc, session, how), Ok(request));
+    assert!(rt; state.may_answer(session, &how));
+    assert_eq!(rt; state.answer(session, how), request);
+}
+
+fn closes(rt: &impl Abort, state: &mut State, session: u32) {
+    assert!(rt; state.may_close(session));
+    state.close_session(session);
+}
+
+fn fails(rt: &impl Abort, state: &mut State, flight: u32, before: u64, after: u64) {
+    assert!(rt; state.may_fail(flight, before, after));
+    state.fail(flight, before, after);
+}
+
+fn lapses(rt: &impl Abort, state: &mut State, flight: u32) {
+    assert!(rt; state.may_lapse(flight));
+    state.lapse(flight);
 }
 
 /// The server's limits, but for 1 context.
@@ -110,18 +126,22 @@ fn a_session_loads_revises_and_evicts(rt: HostRuntime) {
     assert!(rt; leads(&rt, alloc, &mut state, 1, "x", 1).is_none());
     publishes(&rt, alloc, &mut state, 1, "x", 1);
     pins(&rt, alloc, &mut state, 1, (1, 2, 1));
-    answers(&rt, alloc, &mut state, 1, 1);
+    answers(&rt, &mut state, 1, 1);
     pins(&rt, alloc, &mut state, 1, (2, 1, 1));
     let revised = state.revise(alloc, 1, iri(&rt, alloc, "x"));
     assert_eq!(rt; revised, Ok(ReviseAnswer::Led { flight: 2 }));
     let same = state.publish(alloc, 2, given(&rt, alloc, "x", 3));
     assert_eq!(rt; same, Ok(PublishAnswer::Same));
     assert!(rt; matches!(state.outcome(1), Some(How::Same)));
-    answers(&rt, alloc, &mut state, 1, 2);
+    let name = state
+        .name(alloc, iri(&rt, alloc, "x"))
+        .expect(&rt, "memory");
+    assert_eq!(rt; name.as_iri().as_str(), "x");
+    answers(&rt, &mut state, 1, 2);
     pins(&rt, alloc, &mut state, 1, (3, 1, 1));
     let evicted = state.evict(alloc, 1, iri(&rt, alloc, "x"));
     assert_eq!(rt; evicted, Ok(EvictAnswer::Evicted { version: 2 }));
-    assert_eq!(rt; state.close_session(alloc, 1), Ok(()));
+    closes(&rt, &mut state, 1);
     assert_eq!(rt; state.version(), 2);
     assert_eq!(rt; state.events(), 14);
 }
@@ -134,14 +154,22 @@ fn flights_fail_and_lapse(rt: HostRuntime) {
     pins(&rt, alloc, &mut state, 1, (1, 1, 0));
     assert!(rt; leads(&rt, alloc, &mut state, 1, "x", 1).is_none());
     assert!(rt; state.outcome(1).is_none());
-    assert_eq!(rt; state.fail(alloc, 1, 0, 1), Ok(()));
+    assert_eq!(rt; state.end_of(1), Some(End::UnderWay));
+    fails(&rt, &mut state, 1, 3, 5);
+    let failed = End::Failed {
+        before: 3,
+        after: 5,
+    };
+    assert_eq!(rt; state.end_of(1), Some(failed));
     assert!(rt; matches!(state.outcome(1), Some(How::LoadFault { flight: 1 })));
-    answers(&rt, alloc, &mut state, 1, 1);
+    answers(&rt, &mut state, 1, 1);
     pins(&rt, alloc, &mut state, 1, (2, 1, 0));
     assert!(rt; leads(&rt, alloc, &mut state, 1, "x", 2).is_none());
-    assert_eq!(rt; state.lapse(alloc, 2), Ok(()));
-    assert_eq!(rt; state.lapse(alloc, 2), Err(StepRefusal::NotAllowed));
-    answers(&rt, alloc, &mut state, 1, 2);
+    lapses(&rt, &mut state, 2);
+    assert!(rt; !state.may_lapse(2));
+    assert_eq!(rt; state.end_of(2), Some(End::Lapsed));
+    assert_eq!(rt; state.end_of(3), None);
+    answers(&rt, &mut state, 1, 2);
     assert_eq!(rt; state.pin(alloc, 2), Err(StepRefusal::NotAllowed));
 }
 
@@ -154,7 +182,7 @@ fn a_full_store_lets_one_go(rt: HostRuntime) {
     assert!(rt; leads(&rt, alloc, &mut state, 1, "x", 1).is_none());
     publishes(&rt, alloc, &mut state, 1, "x", 1);
     pins(&rt, alloc, &mut state, 1, (1, 2, 1));
-    answers(&rt, alloc, &mut state, 1, 1);
+    answers(&rt, &mut state, 1, 1);
     pins(&rt, alloc, &mut state, 1, (2, 1, 1));
     assert_eq!(rt; leads(&rt, alloc, &mut state, 1, "y", 2), Some(2));
     publishes(&rt, alloc, &mut state, 2, "y", 3);

@@ -1,7 +1,7 @@
 //! A request wants a context out of the store.
 ghost use Rattle.std.specs.Prelude.{◌≡◌, true, [], ◌∷◌, ◌++◌, None, IfOk, OnOk, OnErr};
 ghost use Rattle.ld_history.specs.Legal as legal;
-ghost use Rattle.ld_history.specs.Rules.{allows};
+ghost use Rattle.ld_history.specs.ByTurns.{allows};
 ghost use Rattle.ld_history.specs.After.{after};
 ghost use Rattle.ld_history.specs.Plans.{told_out};
 ghost use Rattle.ld_history.specs.Steps.{Answers, grown, evict_step, plain};
@@ -40,7 +40,7 @@ impl State {
                 Ok(answer)
             }
             EvictPlan::Evict { request, version } => {
-                evict(alloc, self, session, request, iri, version)?;
+                evict(self, session, request, iri, version)?;
                 Ok(EvictAnswer::Evicted { version })
             }
         }
@@ -49,7 +49,6 @@ impl State {
 
 /// Appends the Evicted and its request's Answered, or none.
 fn evict(
-    alloc: Global,
     state: &mut State,
     session: u32,
     request: u32,
@@ -61,8 +60,7 @@ fn evict(
     ensures appended { OnOk result (state.new ≡ record state.old { entries = state.old.entries ++ plain (Event.Evicted session iri version) ∷ plain (told_out session request version) ∷ [] }) }
     ensures unchanged { OnErr result (state.new ≡ state.old) }
 {
-    state.history.reserve(2)?;
-    state.tables.evict(alloc, session, &iri, version)?;
+    state.tables.evict(session, &iri, version)?;
     let gone = Event::Evicted {
         session,
         iri,
@@ -73,7 +71,7 @@ fn evict(
         request,
         how: How::Evicted { version },
     };
-    state.history.push(plain(gone))?;
-    state.history.push(plain(told))?;
+    state.history.push(plain(gone));
+    state.history.push(plain(told));
     Ok(())
 }

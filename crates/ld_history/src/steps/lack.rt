@@ -1,7 +1,7 @@
 //! A request lacks a context.
 ghost use Rattle.std.specs.Prelude.{◌≡◌, true, [], ◌∷◌, ◌++◌, None, IfOk, OnOk, OnErr};
 ghost use Rattle.ld_history.specs.Legal as legal;
-ghost use Rattle.ld_history.specs.Rules.{allows};
+ghost use Rattle.ld_history.specs.ByTurns.{allows};
 ghost use Rattle.ld_history.specs.After.{after};
 ghost use Rattle.ld_history.specs.Plans.{goes_out, comes_in};
 ghost use Rattle.ld_history.specs.Steps.{Answers, grown, lack_step, plain};
@@ -56,7 +56,6 @@ fn replace(alloc: Global, state: &mut State, r: Replacement) -> Result<(), NoMem
     ensures appended { OnOk result (state.new ≡ record state.old { entries = state.old.entries ++ plain (goes_out r) ∷ plain (comes_in r) ∷ [] }) }
     ensures unchanged { OnErr result (state.new ≡ state.old) }
 {
-    state.history.reserve(2)?;
     state.tables.replace(alloc, &r)?;
     let Replacement {
         session,
@@ -75,7 +74,7 @@ fn replace(alloc: Global, state: &mut State, r: Replacement) -> Result<(), NoMem
         iri,
         flight,
     };
-    state.history.push(plain(gone))?;
-    state.history.push(plain(led))?;
+    state.history.push(plain(gone));
+    state.history.push(plain(led));
     Ok(())
 }

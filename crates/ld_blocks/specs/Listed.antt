@@ -1,0 +1,12 @@
+-- What a list in blocks is seen as.
+use Rattle.std.specs.Prelude.{ℕ, List, refl}
+use Rattle.std.specs.Coded.{Coded, code_by, coded×, coded_list, coded_ℕ}
+
+pub record Listed (T : Type 0) : Type 0 where
+  pub items : List T
+  -- how many items there is room for, those that are there among them
+  pub capacity : ℕ
+
+abbrev pub listed_code : {T : Type 0} → Coded T → Coded (Listed T)
+listed_code {T} code =
+    code_by (List T × ℕ) (coded× (coded_list code) coded_ℕ) (λ l. (l.items, l.capacity)) (λ p. record { items = p.0; capacity = p.1 }) (λ _. refl)
