@@ -134,10 +134,10 @@ fn prefixes(rt: HostRuntime) -> Result<(), Fail> {
 
 // The text with another byte at this place.
 fn with_byte(alloc: Global, at: usize, byte: u8) -> Result<Vec<u8>, Fail> {
-    let mut text = Vec::new(alloc);
-    text.extend_from_slice(&WHOLE[..at])?;
-    text.push(byte)?;
-    text.extend_from_slice(&WHOLE[at + 1..])?;
+    let mut text = WHOLE.to_vec(alloc)?;
+    if let Some(place) = text.get_mut(at) {
+        *place = byte;
+    }
     Ok(text)
 }
 
