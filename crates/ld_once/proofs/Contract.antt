@@ -2,16 +2,18 @@
 use Rattle.std.proofs.Common.{◌≡◌, ◌∙◌, ◌⊎◌, inl, inr, ℕ, ◌<◌, ◌≤◌, List, [], ◌∷◌, ◌++◌, length, refl, sym, ap, subst, arith, length-append, append-nil}
 use Rattle.std.specs.Prelude.{Option, Some, None, IfSome, codes}
 use Rattle.std.specs.Io.KnownBytes.{prepend_known}
+use Rattle.ld_edge.specs.Faults.{Rose}
 use Rattle.ld_edge.specs.Sides.{Incoming, Outgoing}
 use Rattle.ld_edge.specs.declared.status.Status.{Status}
 use Rattle.ld_edge.specs.declared.status.Status.TheVariants.{Done, Refused, Usage, ReadFault, WriteFault, LoadFault, TooMany, NoMemory, InputTooLong}
 use Rattle.ld_script.proofs.Scripts.{not_bad}
+use Rattle.ld_once.proofs.Foreseen.{replied_foreseen}
 use Rattle.ld_once.proofs.Replied.{replied_once}
 use Rattle.ld_once.specs.declared.command.Command.{Command}
 use Rattle.ld_once.specs.declared.command.Command.TheVariants.{Document, Schedule}
 use Rattle.ld_answer.specs.declared.op.Op.TheVariants.{Expand, Compact, Flatten}
 use Rattle.ld_flight.specs.Loads.{Loading}
-use Rattle.ld_once.specs.Runs.{input_limit, IsForm, IsFormOf, IsPrinted, IsReply, word_of, Due, Reads, IsReadToEnd, IsReadFor, IsUnloading, IsUnlessFailed, Ended, written, write_failed, read_failed, no_memory}
+use Rattle.ld_once.specs.Runs.{input_limit, IsForm, IsFormOf, IsPrinted, IsReply, word_of, Due, Reads, IsReadToEnd, IsReadFor, IsTelling, IsUnloading, IsUnlessFailed, IsUnlessLoadFailed, Ended, written, write_failed, read_failed, no_memory}
 
 abbrev first_of : List ℕ → ℕ
 first_of [] = 0
@@ -61,6 +63,11 @@ reply_once : (command : Command) (bytes : List ℕ) (loader after loader' : Load
 reply_once (Document op) bytes loader after loader' s t out out' h unloaded other k = replied_once op bytes loader after loader' s t out out' h unloaded other k
 reply_once Schedule bytes loader after loader' s t out out' h unloaded other k = printed_once bytes s t out out' h.0 k.0
 
+reply_foreseen : (command : Command) (bytes : List ℕ) (loader after loader' : Loading) (s t : Status) (out out' : List ℕ) → IsTelling loader → IsReply command bytes loader after s out
+    → (s ≡ LoadFault → ⊥) → IsReply command bytes loader loader' t out' → (t ≡ s) ⊎ ((t ≡ LoadFault) × Rose loader.faults loader'.faults)
+reply_foreseen (Document op) bytes loader after loader' s t out out' telling h other k = replied_foreseen op bytes loader after loader' s t out out' telling h other k
+reply_foreseen Schedule bytes loader after loader' s t out out' telling h other k = inl (printed_once bytes s t out out' h.0 k.0)
+
 -- the parts of what is due for an input that is answered
 abbrev AnswerDue : List (List ℕ) → List ℕ → Loading → Loading → Status → List ℕ → Type 0
 AnswerDue words bytes loader loader' status out = (command : Command) × IsFormOf words command × (length bytes ≤ input_limit) × IsReply command bytes loader loader' status out
@@ -82,23 +89,36 @@ way_of words bytes loader loader' out LoadFault h = answer_way LoadFault h
 way_of words bytes loader loader' out TooMany h = answer_way TooMany h
 way_of words bytes loader loader' out NoMemory h = answer_way NoMemory h
 
-module _ (words : List (List ℕ)) (bytes out out' : List ℕ) (loader after loader' : Loading) (unloaded : after.given ≡ loader.given) where
-  once : (s t : Status) → (s ≡ LoadFault → ⊥) → Way words bytes loader after out s → Way words bytes loader loader' out' t → t ≡ s
-  once s t other (usage_way no_form) (usage_way no_form') = refl
-  once s t other (usage_way no_form) (long_way form long) = absurd (no_form form)
-  once s t other (usage_way no_form) (answer_way status k) = absurd (no_form (k.0, k.1))
-  once s t other (long_way form long) (usage_way no_form) = absurd (no_form form)
-  once s t other (long_way form long) (long_way form' long') = refl
-  once s t other (long_way form long) (answer_way status k) = absurd (grind (arith, long, k.2))
-  once s t other (answer_way status h) (usage_way no_form) = absurd (no_form (h.0, h.1))
-  once s t other (answer_way status h) (long_way form long) = absurd (grind (arith, long, h.2))
-  once s t other (answer_way status h) (answer_way status' k) =
-      reply_once h.0 bytes loader after loader' status status' out out' h.3 unloaded other
-      (subst (λ c. IsReply c bytes loader loader' status' out') (same_command words k.0 h.0 k.1 h.1) k.3)
+module _ (words : List (List ℕ)) (bytes out out' : List ℕ) (loader after loader' : Loading) (G : Status → Status → Type 0) (alike : (s : Status) → G s s)
+    (replied : (command : Command) (s t : Status) → IsReply command bytes loader after s out → IsReply command bytes loader loader' t out' → G s t) where
+  once : (s t : Status) → Way words bytes loader after out s → Way words bytes loader loader' out' t → G s t
+  once s t (usage_way no_form) (usage_way no_form') = alike Usage
+  once s t (usage_way no_form) (long_way form long) = absurd (no_form form)
+  once s t (usage_way no_form) (answer_way status k) = absurd (no_form (k.0, k.1))
+  once s t (long_way form long) (usage_way no_form) = absurd (no_form form)
+  once s t (long_way form long) (long_way form' long') = alike InputTooLong
+  once s t (long_way form long) (answer_way status k) = absurd (grind (arith, long, k.2))
+  once s t (answer_way status h) (usage_way no_form) = absurd (no_form (h.0, h.1))
+  once s t (answer_way status h) (long_way form long) = absurd (grind (arith, long, h.2))
+  once s t (answer_way status h) (answer_way status' k) =
+      replied h.0 status status' h.3 (subst (λ c. IsReply c bytes loader loader' status' out') (same_command words k.0 h.0 k.1 h.1) k.3)
 
+  due_once : (s t : Status) → Due words bytes loader after s out → Due words bytes loader loader' t out' → G s t
+  due_once s t h k = once s t (way_of words bytes loader after out s h) (way_of words bytes loader loader' out' t k)
+
+module _ (words : List (List ℕ)) (bytes out out' : List ℕ) (loader after loader' : Loading) where
   -- where nothing is loaded, one status is due for one input
-  pub Due-once : (s t : Status) → (s ≡ LoadFault → ⊥) → Due words bytes loader after s out → Due words bytes loader loader' t out' → t ≡ s
-  Due-once s t other h k = once s t other (way_of words bytes loader after out s h) (way_of words bytes loader loader' out' t k)
+  pub Due-once : after.given ≡ loader.given → (s t : Status) → (s ≡ LoadFault → ⊥) → Due words bytes loader after s out → Due words bytes loader loader' t out' → t ≡ s
+  Due-once unloaded s t other h k =
+      due_once words bytes out out' loader after loader' (λ s t. (s ≡ LoadFault → ⊥) → t ≡ s) (λ s _. refl)
+      (λ command s t h k other. reply_once command bytes loader after loader' s t out out' h unloaded other k) s t h k other
+
+  -- where the loader tells its answers, one status is due for one input, but for a load that fails
+  pub Due-foreseen : IsTelling loader → (s t : Status) → (s ≡ LoadFault → ⊥) → Due words bytes loader after s out → Due words bytes loader loader' t out'
+      → (t ≡ s) ⊎ ((t ≡ LoadFault) × Rose loader.faults loader'.faults)
+  Due-foreseen telling s t other h k =
+      due_once words bytes out out' loader after loader' (λ s t. (s ≡ LoadFault → ⊥) → (t ≡ s) ⊎ ((t ≡ LoadFault) × Rose loader.faults loader'.faults)) (λ s _. inl refl)
+      (λ command s t h k other. reply_foreseen command bytes loader after loader' s t out out' telling h other k) s t h k other
 
 -- what a source that tells its bytes has left, behind those that were read
 rest_told : (left left' : Option (List ℕ)) (bytes read : List ℕ) → left ≡ Some bytes → left ≡ prepend_known read left' → (rest : List ℕ) × (left' ≡ Some rest) × (bytes ≡ read ++ rest)
@@ -141,3 +161,15 @@ module _ (words : List (List ℕ)) (source source' : Incoming) (sink sink' : Out
   Ended-exact s (write_failed status read out' h reads front) bytes out due after told k unloading = inr (inr (inl (refl, front.0)))
   Ended-exact s (read_failed form rose same unasked) bytes out due after told k unloading = inr (inl (refl, rose))
   Ended-exact s (no_memory form count same cut) bytes out due after told k unloading = inr (inr (inr refl))
+
+  -- where the loader tells its answers too, the status is the one that is due, unless an object or a load failed or memory was wanting
+  pub Ended-foreseen : (s : Status) → Ended words source source' sink sink' loader loader' s → (bytes out : List ℕ) (due : Status) (after : Loading) → IsTelling loader
+      → source.left ≡ Some bytes → Due words bytes loader after due out → (due ≡ LoadFault → ⊥) → IsUnlessLoadFailed due s source source' sink sink' loader loader'
+  Ended-foreseen s (written status read out' h reads writes) bytes out due after telling told k other =
+      elim (Due-foreseen words bytes out out' loader after loader' telling due status other k (Due-told words bytes read out' source source' told loader loader' status h reads)) [
+        | inl same ↦ inl (inl same)
+        | inr fault ↦ inr fault
+      ]
+  Ended-foreseen s (write_failed status read out' h reads front) bytes out due after telling told k other = inl (inr (inr (inl (refl, front.0))))
+  Ended-foreseen s (read_failed form rose same unasked) bytes out due after telling told k other = inl (inr (inl (refl, rose)))
+  Ended-foreseen s (no_memory form count same cut) bytes out due after telling told k other = inl (inr (inr (inr refl)))

@@ -1,6 +1,7 @@
 pub mod CommandLine
 pub mod Contract
 pub mod Endings
+pub mod Foreseen
 pub mod Found
 pub mod Known
 pub mod Replied

@@ -29,17 +29,17 @@ missing_unsettled iri Refused out h = no_body out h
 missing_unsettled iri _ out h = h
 
 -- a result settles one status
-abbrev status_of : Result Tree Stop → Status
+abbrev pub status_of : Result Tree Stop → Status
 status_of (Ok tree) = Done
 status_of (Err e) = Refused
 
-settled_status : (r : Result Tree Stop) (status : Status) (out : List ℕ) → IsSettled r status out → status ≡ status_of r
+pub settled_status : (r : Result Tree Stop) (status : Status) (out : List ℕ) → IsSettled r status out → status ≡ status_of r
 settled_status (Ok tree) Done out h = refl
 settled_status (Ok tree) _ out h = absurd h
 settled_status (Err e) Refused out h = refl
 settled_status (Err e) _ out h = absurd h
 
-settled_once : (r : Result Tree Stop) (s t : Status) (out out' : List ℕ) → IsSettled r s out → IsSettled r t out' → t ≡ s
+pub settled_once : (r : Result Tree Stop) (s t : Status) (out out' : List ℕ) → IsSettled r s out → IsSettled r t out' → t ≡ s
 settled_once r s t out out' h k = settled_status r t out' k ∙ sym (settled_status r s out h)
 
 -- ---- what was loaded
@@ -93,7 +93,7 @@ module _ (answering answering' : Answering) (loader after loader' : Loading) (s 
       ]
 
 -- bytes aren't both an envelope and none
-not_both : (op : Op) (bytes : List ℕ) (loader after loader' : Loading) (s t : Status) (out out' : List ℕ) → IsAnswered op bytes loader after s out → IsNoEnvelope op bytes loader loader' t out' → ⊥
+pub not_both : (op : Op) (bytes : List ℕ) (loader after loader' : Loading) (s t : Status) (out out' : List ℕ) → IsAnswered op bytes loader after s out → IsNoEnvelope op bytes loader loader' t out' → ⊥
 not_both op bytes loader after loader' s t out out' h k =
     accepted_or_refused op bytes h.envelope k.refusal h.accepted k.refused (λ is. no_body out' (sym (ap (λ e. option_map body_line (refusal_body e)) is) ∙ k.body))
 

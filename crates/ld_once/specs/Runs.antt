@@ -11,7 +11,7 @@ use Rattle.ld_answer.specs.declared.envelope.Envelope.{Envelope}
 use Rattle.ld_answer.specs.declared.op.Op.{Op}
 use Rattle.ld_answer.specs.declared.op.Op.TheVariants.{Expand, Compact, Flatten}
 use Rattle.ld_answer.specs.declared.refusal.EnvelopeRefusal.{EnvelopeRefusal}
-use Rattle.ld_flight.specs.Loads.{Loading}
+use Rattle.ld_flight.specs.Loads.{Answer, Loading}
 use Rattle.ld_script.specs.Scripts.{IsBadAt}
 use Rattle.ld_script.specs.Printed.{IsOutput}
 use Rattle.ld_once.specs.Loading.{answering, LoadsInPart}
@@ -126,6 +126,15 @@ pub data Ended (words : List (List ℕ)) (source source' : Incoming) (sink sink'
 abbrev pub IsUnlessFailed : Status → Status → Incoming → Incoming → Outgoing → Outgoing → Type 0
 IsUnlessFailed due status source source' sink sink' =
     (status ≡ due) ⊎ ((status ≡ ReadFault) × Rose source.faults source'.faults) ⊎ ((status ≡ WriteFault) × Rose sink.faults sink'.faults) ⊎ (status ≡ NoMemory)
+
+-- the loader tells its answers to come, for each IRI
+abbrev pub IsTelling : Loading → Type 0
+IsTelling loader = (iri : List ℕ) → (answers : List Answer) × (loader.held iri ≡ Some answers)
+
+-- the status is this one, unless an object failed, a load failed or memory was wanting
+abbrev pub IsUnlessLoadFailed : Status → Status → Incoming → Incoming → Outgoing → Outgoing → Loading → Loading → Type 0
+IsUnlessLoadFailed due status source source' sink sink' loader loader' =
+    IsUnlessFailed due status source source' sink sink' ⊎ ((status ≡ LoadFault) × Rose loader.faults loader'.faults)
 
 -- nothing is due to be loaded
 abbrev pub IsUnloading : Status → Loading → Loading → Type 0

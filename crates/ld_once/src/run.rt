@@ -2,7 +2,7 @@ ghost use Rattle.std.specs.Prelude.{◌≡◌, ◌⊎◌, ℕ, List, Some, map, 
 ghost use Rattle.ld_edge.specs.declared.status.Status.{Status};
 ghost use Rattle.ld_edge.specs.declared.status.Status.TheVariants as ended;
 ghost use Rattle.ld_flight.specs.Loads.{Loading};
-ghost use Rattle.ld_once.specs.Runs.{Due, Ended, IsUnloading, IsUnlessFailed, Writes, WritesFront};
+ghost use Rattle.ld_once.specs.Runs.{Due, Ended, IsTelling, IsUnloading, IsUnlessFailed, IsUnlessLoadFailed, Writes, WritesFront};
 
 use crate::command::Command;
 use crate::input::{Input, InputRefusal, read_input};
@@ -37,6 +37,12 @@ pub fn run_once<S: Source, K: Sink, L: Loader>(
     ensures exact { (bytes out : List ℕ) (due : Status) (after : Loading) → (S.incoming input.old).left ≡ Some bytes
         → Due (map string_bytes words.now) bytes (L.loading loader.old) after due out → IsUnloading due (L.loading loader.old) after
         → IsUnlessFailed due result (S.incoming input.old) (S.incoming input.new) (K.outgoing output.old) (K.outgoing output.new) }
+
+    // Where the loader tells its answers, one status is due, and it comes, unless an object or a load failed or memory was wanting.
+    ensures foreseen { (bytes out : List ℕ) (due : Status) (after : Loading) → IsTelling (L.loading loader.old) → (S.incoming input.old).left ≡ Some bytes
+        → Due (map string_bytes words.now) bytes (L.loading loader.old) after due out → (due ≡ ended.LoadFault → ⊥)
+        → IsUnlessLoadFailed due result (S.incoming input.old) (S.incoming input.new) (K.outgoing output.old) (K.outgoing output.new)
+            (L.loading loader.old) (L.loading loader.new) }
 {
     run(alloc, words, input, output, loader)
 }
