@@ -7,11 +7,12 @@ use Rattle.ld_edge.specs.declared.status.Status.{Status}
 use Rattle.ld_edge.specs.declared.status.Status.TheVariants.{Done, Refused, Usage, ReadFault, WriteFault, LoadFault, TooMany, NoMemory, InputTooLong}
 use Rattle.ld_script.proofs.Scripts.{not_bad}
 use Rattle.ld_once.proofs.Replied.{replied_once}
+use Rattle.ld_once.proofs.Soaks.{not_soak}
 use Rattle.ld_once.specs.declared.command.Command.{Command}
 use Rattle.ld_once.specs.declared.command.Command.TheVariants.{Document, Schedule}
 use Rattle.ld_answer.specs.declared.op.Op.TheVariants.{Expand, Compact, Flatten}
 use Rattle.ld_flight.specs.Loads.{Loading}
-use Rattle.ld_once.specs.Runs.{input_limit, IsForm, IsFormOf, IsPrinted, IsReply, word_of, Due, Reads, IsReadToEnd, IsReadFor, IsUnloading, IsUnlessFailed, Ended, written, write_failed, read_failed, no_memory}
+use Rattle.ld_once.specs.Runs.{input_limit, IsForm, IsFormOf, IsPrinted, IsReply, word_of, Due, Reads, IsReadToEnd, IsReadFor, IsUnloading, IsUnlessFailed, Ended, written, write_failed, read_failed, no_memory, soaked}
 
 abbrev first_of : List ℕ → ℕ
 first_of [] = 0
@@ -141,3 +142,4 @@ module _ (words : List (List ℕ)) (source source' : Incoming) (sink sink' : Out
   Ended-exact s (write_failed status read out' h reads front) bytes out due after told k unloading = inr (inr (inl (refl, front.0)))
   Ended-exact s (read_failed form rose same unasked) bytes out due after told k unloading = inr (inl (refl, rose))
   Ended-exact s (no_memory form count same cut) bytes out due after told k unloading = inr (inr (inr refl))
+  Ended-exact s (soaked status count form unread unasked is) bytes out due after told k unloading = absurd (not_soak words bytes out loader after due k (count, form))

@@ -4,4 +4,5 @@ pub mod Endings
 pub mod Found
 pub mod Known
 pub mod Replied
+pub mod Soaks
 pub mod Steps

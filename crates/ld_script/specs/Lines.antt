@@ -5,6 +5,11 @@ use Rattle.ld_history.specs.declared.limits.Limits.{Limits}
 use Rattle.ld_script.specs.declared.line.Line.{Line}
 use Rattle.ld_script.specs.declared.line.Line.TheVariants as line
 
+-- the word spells the number, which is at most this
+pub record IsNumber (word : List ℕ) (most number : ℕ) : Type 0 where
+  pub bounded : number ≤ most
+  pub spelled : word ≡ decimal number
+
 -- words with one space between them
 abbrev pub spaced : List (List ℕ) → List ℕ
 spaced [] = []
