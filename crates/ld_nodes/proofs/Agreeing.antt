@@ -260,7 +260,7 @@ good_entries (e ∷ es) = (e.1.1, good_entries es)
 
 step_goes : (y : Tree-F Kept) (element : Tree) (graph : ℕ) (name : Graph) (place : Place) (spot : Spot) (w : Walk) (s : Told) → Agrees w s → KnowsGraph w.graphs name graph → IsSpot w place spot
     → Goes w (visit_step (map-Tree Tree visits.Child child_of (map-Tree Kept Tree tree_in y)) element graph place w)
-        (tell_step (map-Tree Tree parts.Child teller_of (map-Tree Kept Tree tree_in y)) element name spot s)
+    (tell_step (map-Tree Tree parts.Child teller_of (map-Tree Kept Tree tree_in y)) element name spot s)
 step_goes (Tree-F.List ks) element graph name place spot w s agrees known at = each_goes (map tree_in ks) (good_items ks) graph name place spot w s agrees known at
 step_goes (Tree-F.Map es) element graph name place spot w s agrees known at = map_goes (map (on_value tree_in) es.0) (good_entries es.0) element graph name place spot w s agrees known at
 step_goes (Tree-F.Text text) element graph name place spot w s agrees known at = stays_here agrees

@@ -33,15 +33,15 @@ module _ {X : Type 0} where
       → get_or (set groups k (get_or groups k [] ++ x ∷ [])) n [] ++ rest ≡ get_or groups n [] ++ cond (eqb k n) (x ∷ rest) rest
   added_at groups n k x rest inside = elim (eqb_tells k n) [
     | inl same ↦
-      let here : k < length groups = omega (arith, same.1, inside) in
-      ap (λ (m : ℕ). get_or (set groups k (get_or groups k [] ++ x ∷ [])) m [] ++ rest) (sym same.1)
-      ∙ ap (λ (l : List X). l ++ rest) (get_or-set_same groups k (get_or groups k [] ++ x ∷ []) [] here)
-      ∙ append_assoc (get_or groups k []) (x ∷ []) rest
-      ∙ ap (λ (m : ℕ). get_or groups m [] ++ x ∷ rest) same.1
-      ∙ ap (λ (b : Bool). get_or groups n [] ++ cond b (x ∷ rest) rest) (sym same.0)
+        let here : k < length groups = omega (arith, same.1, inside) in
+        ap (λ (m : ℕ). get_or (set groups k (get_or groups k [] ++ x ∷ [])) m [] ++ rest) (sym same.1)
+        ∙ ap (λ (l : List X). l ++ rest) (get_or-set_same groups k (get_or groups k [] ++ x ∷ []) [] here)
+        ∙ append_assoc (get_or groups k []) (x ∷ []) rest
+        ∙ ap (λ (m : ℕ). get_or groups m [] ++ x ∷ rest) same.1
+        ∙ ap (λ (b : Bool). get_or groups n [] ++ cond b (x ∷ rest) rest) (sym same.0)
     | inr other ↦
-      ap (λ (l : List X). l ++ rest) (get_or-set_other groups k n (get_or groups k [] ++ x ∷ []) [] (λ e. other.1 (sym e)))
-      ∙ ap (λ (b : Bool). get_or groups n [] ++ cond b (x ∷ rest) rest) (sym other.0)
+        ap (λ (l : List X). l ++ rest) (get_or-set_other groups k n (get_or groups k [] ++ x ∷ []) [] (λ e. other.1 (sym e)))
+        ∙ ap (λ (b : Bool). get_or groups n [] ++ cond b (x ∷ rest) rest) (sym other.0)
   ]
 
   -- the list of a number
@@ -147,13 +147,13 @@ module _ (k : ℕ) (name : Name) (v : ℕ) where
   goes_first [] h = refl
   goes_first (e ∷ es) h = elim (eqb_tells e.0.0 k) [
     | inl same ↦
-      let less = sym (by_name k e.0.0 name e.0.1 same.1) ∙ h.0 in
-      ap (λ (b : Bool). with_name name (cond b (e.0.1 ∷ names_with k es) (names_with k es))) same.0
-      ∙ ap (λ o. match_ordering o (name ∷ e.0.1 ∷ names_with k es) (e.0.1 ∷ names_with k es) (e.0.1 ∷ with_name name (names_with k es))) less
-      ∙ ap (λ (b : Bool). name ∷ cond b (e.0.1 ∷ names_with k es) (names_with k es)) (sym same.0)
+        let less = sym (by_name k e.0.0 name e.0.1 same.1) ∙ h.0 in
+        ap (λ (b : Bool). with_name name (cond b (e.0.1 ∷ names_with k es) (names_with k es))) same.0
+        ∙ ap (λ o. match_ordering o (name ∷ e.0.1 ∷ names_with k es) (e.0.1 ∷ names_with k es) (e.0.1 ∷ with_name name (names_with k es))) less
+        ∙ ap (λ (b : Bool). name ∷ cond b (e.0.1 ∷ names_with k es) (names_with k es)) (sym same.0)
     | inr other ↦
-      ap (λ (b : Bool). with_name name (cond b (e.0.1 ∷ names_with k es) (names_with k es))) other.0 ∙ goes_first es h.1
-      ∙ ap (λ (b : Bool). name ∷ cond b (e.0.1 ∷ names_with k es) (names_with k es)) (sym other.0)
+        ap (λ (b : Bool). with_name name (cond b (e.0.1 ∷ names_with k es) (names_with k es))) other.0 ∙ goes_first es h.1
+        ∙ ap (λ (b : Bool). name ∷ cond b (e.0.1 ∷ names_with k es) (names_with k es)) (sym other.0)
   ]
 
   self_first : (rest : List Name) → cond (eqb k k) (name ∷ rest) rest ≡ name ∷ rest
@@ -174,9 +174,9 @@ module _ (k : ℕ) (name : Name) (v : ℕ) where
         let same = same_key key e.0 o in
         elim (eqb_tells e.0.0 k) [
           | inl alike ↦
-            ap (λ (b : Bool). cond b (e.0.1 ∷ names) names) alike.0
-            ∙ ap (λ o. match_ordering o (name ∷ e.0.1 ∷ names) (e.0.1 ∷ names) (e.0.1 ∷ with_name name names)) (sym (sym (by_name k e.0.0 name e.0.1 alike.1) ∙ o))
-            ∙ ap (λ (b : Bool). with_name name (cond b (e.0.1 ∷ names) names)) (sym alike.0)
+              ap (λ (b : Bool). cond b (e.0.1 ∷ names) names) alike.0
+              ∙ ap (λ o. match_ordering o (name ∷ e.0.1 ∷ names) (e.0.1 ∷ names) (e.0.1 ∷ with_name name names)) (sym (sym (by_name k e.0.0 name e.0.1 alike.1) ∙ o))
+              ∙ ap (λ (b : Bool). with_name name (cond b (e.0.1 ∷ names) names)) (sym alike.0)
           | inr unlike ↦ absurd (unlike.1 (sym same.0))
         ]
 
@@ -184,13 +184,13 @@ module _ (k : ℕ) (name : Name) (v : ℕ) where
         → names_with k (e ∷ insert_entry key_cmp es key v) ≡ with_name name (names_with k (e ∷ es))
     greater_case o rest = elim (eqb_tells e.0.0 k) [
       | inl alike ↦
-        ap (λ (b : Bool). cond b (e.0.1 ∷ names_with k (insert_entry key_cmp es key v)) (names_with k (insert_entry key_cmp es key v))) alike.0
-        ∙ ap (λ (l : List Name). e.0.1 ∷ l) rest
-        ∙ ap (λ o. match_ordering o (name ∷ e.0.1 ∷ names) (e.0.1 ∷ names) (e.0.1 ∷ with_name name names)) (sym (sym (by_name k e.0.0 name e.0.1 alike.1) ∙ o))
-        ∙ ap (λ (b : Bool). with_name name (cond b (e.0.1 ∷ names) names)) (sym alike.0)
+          ap (λ (b : Bool). cond b (e.0.1 ∷ names_with k (insert_entry key_cmp es key v)) (names_with k (insert_entry key_cmp es key v))) alike.0
+          ∙ ap (λ (l : List Name). e.0.1 ∷ l) rest
+          ∙ ap (λ o. match_ordering o (name ∷ e.0.1 ∷ names) (e.0.1 ∷ names) (e.0.1 ∷ with_name name names)) (sym (sym (by_name k e.0.0 name e.0.1 alike.1) ∙ o))
+          ∙ ap (λ (b : Bool). with_name name (cond b (e.0.1 ∷ names) names)) (sym alike.0)
       | inr unlike ↦
-        ap (λ (b : Bool). cond b (e.0.1 ∷ names_with k (insert_entry key_cmp es key v)) (names_with k (insert_entry key_cmp es key v))) unlike.0
-        ∙ rest ∙ ap (λ (b : Bool). with_name name (cond b (e.0.1 ∷ names) names)) (sym unlike.0)
+          ap (λ (b : Bool). cond b (e.0.1 ∷ names_with k (insert_entry key_cmp es key v)) (names_with k (insert_entry key_cmp es key v))) unlike.0
+          ∙ rest ∙ ap (λ (b : Bool). with_name name (cond b (e.0.1 ∷ names) names)) (sym unlike.0)
     ]
 
     head_case : (o : Ordering) → key_cmp key e.0 ≡ o → IsBelow key_total e.0 (keys_of es) → names_with k (insert_entry key_cmp es key v) ≡ with_name name names
@@ -220,8 +220,8 @@ module _ (k : ℕ) (name : Name) (v : ℕ) where
   pub names_put : (es : Table Key) → IsSorted es → (n : ℕ) → names_with n (insert_entry key_cmp es key v) ≡ cond (eqb k n) (with_name name (names_with n es)) (names_with n es)
   names_put es h n = elim (eqb_tells k n) [
     | inl alike ↦
-      ap (λ (m : ℕ). names_with m (insert_entry key_cmp es key v)) (sym alike.1) ∙ names_same es h ∙ ap (λ (m : ℕ). with_name name (names_with m es)) alike.1
-      ∙ ap (λ (b : Bool). cond b (with_name name (names_with n es)) (names_with n es)) (sym alike.0)
+        ap (λ (m : ℕ). names_with m (insert_entry key_cmp es key v)) (sym alike.1) ∙ names_same es h ∙ ap (λ (m : ℕ). with_name name (names_with m es)) alike.1
+        ∙ ap (λ (b : Bool). cond b (with_name name (names_with n es)) (names_with n es)) (sym alike.0)
     | inr unlike ↦ names_other n unlike.0 es ∙ ap (λ (b : Bool). cond b (with_name name (names_with n es)) (names_with n es)) (sym unlike.0)
   ]
 
@@ -254,8 +254,8 @@ module _ {X : Type 0} (F : Key × ℕ → X) (h : Name → X) (n : ℕ) where
   assembled [] all = refl
   assembled (e ∷ es) all = elim (eqb_tells e.0.0 n) [
     | inl alike ↦
-      ap (λ (b : Bool). cond b (F e ∷ rest_of es) (rest_of es)) alike.0 ∙ ap₂ (λ (x : X) (xs : List X). x ∷ xs) (all.0 alike.1) (assembled es all.1)
-      ∙ ap (λ (b : Bool). map h (cond b (e.0.1 ∷ names_with n es) (names_with n es))) (sym alike.0)
+        ap (λ (b : Bool). cond b (F e ∷ rest_of es) (rest_of es)) alike.0 ∙ ap₂ (λ (x : X) (xs : List X). x ∷ xs) (all.0 alike.1) (assembled es all.1)
+        ∙ ap (λ (b : Bool). map h (cond b (e.0.1 ∷ names_with n es) (names_with n es))) (sym alike.0)
     | inr unlike ↦
-      ap (λ (b : Bool). cond b (F e ∷ rest_of es) (rest_of es)) unlike.0 ∙ assembled es all.1 ∙ ap (λ (b : Bool). map h (cond b (e.0.1 ∷ names_with n es) (names_with n es))) (sym unlike.0)
+        ap (λ (b : Bool). cond b (F e ∷ rest_of es) (rest_of es)) unlike.0 ∙ assembled es all.1 ∙ ap (λ (b : Bool). map h (cond b (e.0.1 ∷ names_with n es) (names_with n es))) (sym unlike.0)
   ]

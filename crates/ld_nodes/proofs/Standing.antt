@@ -217,21 +217,21 @@ slot_self : (a : Slot) → is_slot a a ≡ true
 slot_self a = ap₂ (λ x y. x && y) (subject_self a.0) (nat_list_eq_equiv.refl a.1)
 
 tested : (m n : ℕ) (b : Bool) → (m ≡ n → b ≡ true) → (b ≡ true → m ≡ n) → eqb m n ≡ b
-tested m n true h k = elim (eqb_tells m n) [ | inl alike ↦ alike.0 | inr unlike ↦ absurd (unlike.1 (k refl)) ]
-tested m n false h k = elim (eqb_tells m n) [ | inl alike ↦ absurd (true≢false (sym (h alike.1))) | inr unlike ↦ unlike.0 ]
+tested m n true h k = elim (eqb_tells m n) [ inl alike ↦ alike.0 | inr unlike ↦ absurd (unlike.1 (k refl)) ]
+tested m n false h k = elim (eqb_tells m n) [ inl alike ↦ absurd (true≢false (sym (h alike.1))) | inr unlike ↦ unlike.0 ]
 
 is_eq_nat : (m n : ℕ) → is_eq (nat_cmp m n) ≡ eqb m n
 is_eq_nat m n = by (nat_cmp m n) refl
   where
     by : (o : Ordering) → nat_cmp m n ≡ o → is_eq o ≡ eqb m n
-    by Less e = elim (eqb_tells m n) [ | inl alike ↦ absurd (let bad : Less ≡ Equal = sym e ∙ sym (nat_cmp_is m n Equal alike.1) in cc) | inr unlike ↦ sym unlike.0 ]
-    by Equal e = elim (eqb_tells m n) [ | inl alike ↦ sym alike.0 | inr unlike ↦ absurd (unlike.1 (exact_unsigned m n e)) ]
-    by Greater e = elim (eqb_tells m n) [ | inl alike ↦ absurd (let bad : Greater ≡ Equal = sym e ∙ sym (nat_cmp_is m n Equal alike.1) in cc) | inr unlike ↦ sym unlike.0 ]
+    by Less e = elim (eqb_tells m n) [ inl alike ↦ absurd (let bad : Less ≡ Equal = sym e ∙ sym (nat_cmp_is m n Equal alike.1) in cc) | inr unlike ↦ sym unlike.0 ]
+    by Equal e = elim (eqb_tells m n) [ inl alike ↦ sym alike.0 | inr unlike ↦ absurd (unlike.1 (exact_unsigned m n e)) ]
+    by Greater e = elim (eqb_tells m n) [ inl alike ↦ absurd (let bad : Greater ≡ Equal = sym e ∙ sym (nat_cmp_is m n Equal alike.1) in cc) | inr unlike ↦ sym unlike.0 ]
 
 eqb_turned : (m n : ℕ) → eqb m n ≡ eqb n m
 eqb_turned m n = elim (eqb_tells m n) [
   | inl alike ↦ ap₂ eqb alike.1 (sym alike.1)
-  | inr unlike ↦ elim (eqb_tells n m) [ | inl alike ↦ absurd (unlike.1 (sym alike.1)) | inr other ↦ unlike.0 ∙ sym other.0 ]
+  | inr unlike ↦ elim (eqb_tells n m) [ inl alike ↦ absurd (unlike.1 (sym alike.1)) | inr other ↦ unlike.0 ∙ sym other.0 ]
 ]
 
 module _ {w : Walk} {s : Told} (agrees : Agrees w s) where

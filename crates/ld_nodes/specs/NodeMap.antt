@@ -2,7 +2,7 @@
 use Rattle.std.specs.Prelude.{ℕ, Bool, false, not, ◌&&◌, ◌||◌, cond, List, [], ◌∷◌, ◌++◌, map, Result, Ok, Err, Option, None}
 use Rattle.std.specs.Ordering.{is_eq, match_ordering}
 use Rattle.ld_codes.specs.declared.code.Code.{Code}
-use Rattle.ld_group.specs.Firsts.{is_list_object}
+use Rattle.ld_rec.specs.Kinds.{is_list_object}
 use Rattle.ld_tree.specs.Names.{name_cmp}
 use Rattle.ld_tree.specs.declared.tree.Tree.{Tree}
 use Rattle.ld_tree.specs.declared.tree.Tree.TheVariants as t
@@ -12,7 +12,7 @@ use Rattle.ld_nodes.specs.Told.{Fact, IsNode, HasProperty, HasValue, HasIndex, I
 use Rattle.ld_nodes.specs.Tellings.{told_by}
 use Rattle.ld_nodes.specs.declared.node.Node.{Node}
 
--- names in code point order with one more, which stands once
+-- names in code point order, with one more; each stands once
 abbrev pub with_name : Name → List Name → List Name
 with_name name [] = name ∷ []
 with_name name (other ∷ names) = match_ordering (name_cmp name other) (name ∷ other ∷ names) (other ∷ names) (other ∷ with_name name names)
@@ -29,10 +29,14 @@ properties_of node [] = []
 properties_of node (HasProperty slot ∷ facts) = cond (is_subject slot.0 node) (with_name slot.1 (properties_of node facts)) (properties_of node facts)
 properties_of node (fact ∷ facts) = properties_of node facts
 
+-- the same JSON value
+abbrev pub is_same : Tree → Tree → Bool
+is_same a b = is_eq (order.ghosts.cmp a b)
+
 -- whether the value was told of the property
 abbrev pub is_told : Slot → Tree → List Fact → Bool
 is_told slot value [] = false
-is_told slot value (HasValue other known ∷ facts) = is_told slot value facts || (is_slot other slot && is_eq (order.ghosts.cmp known value))
+is_told slot value (HasValue other known ∷ facts) = is_told slot value facts || (is_slot other slot && is_same known value)
 is_told slot value (fact ∷ facts) = is_told slot value facts
 
 -- whether a value is added to those that were told before: it isn't there, or it is a list object
@@ -53,7 +57,7 @@ node_of facts graph id =
     let node : Subject = (graph, id) in
     record { id = id; index = index_of node facts; properties = map (property_of facts node) (properties_of node facts) }
 
--- the nodes of a graph, in the order of their identifiers
+-- the nodes of a graph, in the order of their identifiers, with all that is told of them
 abbrev pub nodes_of : List Fact → Graph → List Node
 nodes_of facts graph = map (node_of facts graph) (ids_in graph facts)
 

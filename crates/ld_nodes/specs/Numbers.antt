@@ -1,4 +1,4 @@
--- Flattening by numbers of graphs.
+-- The flattened form that the code makes, by numbers of graphs.
 use Rattle.std.specs.Prelude.{ℕ, ◌+◌, List, [], Option, None, Some, Result, Ok, Err, filter_map, slice_index_or}
 use Rattle.std.specs.Map.{lookup}
 use Rattle.std.specs.BTreeMap.{is_at}

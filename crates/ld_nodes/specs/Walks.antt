@@ -1,5 +1,5 @@
--- What node map generation has gathered at a point of its walk (JSON-LD 1.1 API, 7.2), and what a single
--- thing that it meets does to that. Graphs, nodes and properties of nodes are spoken of by numbers.
+-- What the code's walk has gathered, and what a single thing that it meets does to that: the same as in Told, with graphs,
+-- nodes and properties of nodes spoken of by numbers.
 use Rattle.std.specs.Prelude.{◌≡◌, ℕ, ◌+◌, ◌==◌, Bool, cond, List, [], ◌∷◌, ◌++◌, map, Option, None, Some, option_and_then, Result, Ok, Err, unwrap_or, length, codes, bytes_eq}
 use Rattle.std.specs.Map.{lookup}
 use Rattle.std.specs.BTreeMap.{insert_entry, is_at}
