@@ -1,5 +1,5 @@
 //! The documents of a soak.
-ghost use Rattle.std.specs.Prelude.{◌≡◌, ◌+◌, ◌≤◌, Some, None, IfOk, true};
+ghost use Rattle.std.specs.Prelude.{◌≡◌, ◌+◌, ◌≤◌, Some, None, IfOk, decimal, true};
 ghost use Rattle.ld_rec.specs.Kinds.{text_tree as tree_of_text};
 ghost use Rattle.ld_soak.specs.Soaks.{context_tree, document, node, node_iri};
 
@@ -29,11 +29,15 @@ fn document(alloc: Global, number: u32) -> Result<Tree, NoMemory>
     requires { number ≤ 65535 }
     ensures { IfOk result (λ tree. tree ≡ document number) }
 {
-    let name = format!(in alloc; "{number}")?;
     let mut entries = empty(alloc);
-    put(alloc, &mut entries, "@context", text_tree(alloc, CONTEXT_IRI)?)?;
+    put(
+        alloc,
+        &mut entries,
+        "@context",
+        text_tree(alloc, CONTEXT_IRI)?,
+    )?;
     put(alloc, &mut entries, "@id", iri_tree(alloc, number)?)?;
-    put(alloc, &mut entries, "n", Tree::Text(Text::from_string(name)))?;
+    put(alloc, &mut entries, "n", name_tree(alloc, number)?)?;
     put(alloc, &mut entries, "k", node(alloc, number + 1)?)?;
     Ok(Tree::Map(entries))
 }
@@ -49,6 +53,13 @@ fn node(alloc: Global, number: u32) -> Result<Tree, NoMemory>
         "n",
         text_tree(alloc, "x")?,
     )
+}
+
+fn name_tree(alloc: Global, number: u32) -> Result<Tree, NoMemory>
+    ensures { IfOk result (λ tree. tree ≡ tree_of_text (decimal number)) }
+{
+    let name = format!(in alloc; "{number}")?;
+    Ok(Tree::Text(Text::from_string(name)))
 }
 
 fn iri_tree(alloc: Global, number: u32) -> Result<Tree, NoMemory>

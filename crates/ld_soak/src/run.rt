@@ -1,10 +1,10 @@
-ghost use Rattle.std.specs.Prelude.{◌≡◌, ◌+◌, ◌<◌, Result, IfOk, OnOk, length};
+ghost use Rattle.std.specs.Prelude.{◌≡◌, ◌+◌, ◌<◌, ◌≤◌, Result, IfOk, OnOk, length};
 ghost use Rattle.ld_answer.specs.Answers.{answered, Tells};
 ghost use Rattle.ld_answer.specs.declared.op.Op.TheVariants as ops;
 ghost use Rattle.ld_rec.specs.declared.stop.Stop.{Stop};
 ghost use Rattle.ld_tree.specs.CompactText.{text};
 ghost use Rattle.ld_tree.specs.declared.tree.Tree.{Tree};
-ghost use Rattle.ld_soak.specs.Soaks.{answer_length, text_length, AreSums, IsStock};
+ghost use Rattle.ld_soak.specs.Soaks.{answer_length, text_length, AreLengths, AreSums, IsStock};
 ghost use Rattle.ld_soak.specs.Steps.{AreBounded};
 
 use crate::context::load_stock;
@@ -24,9 +24,7 @@ pub fn soak(alloc: Global, count: u16) -> Result<Sums, NoMemory>
 {
     let mut sums = Sums::nothing();
     let stock = sums.load(alloc)?;
-    while sums.documents < count {
-        sums.add_next(alloc, &stock)?;
-    }
+    sums.add_documents(alloc, &stock, count)?;
     Ok(sums)
 }
 
@@ -56,6 +54,21 @@ impl Sums {
         let stock = load_stock(alloc, &mut tower)?;
         self.loads = tower.made();
         Ok(stock)
+    }
+
+    // Answers the documents that are left, up to this number.
+    fn add_documents(&mut self, alloc: Global, stock: &Stock, count: u16) -> Result<(), NoMemory>
+        requires within { self.old.documents ≤ count }
+        requires lengths { AreLengths stock.now self.old }
+        requires bounded { AreBounded self.old }
+        ensures documents { OnOk result (self.new.documents ≡ count) }
+        ensures loads { OnOk result (self.new.loads ≡ self.old.loads) }
+        ensures lengths { OnOk result (AreLengths stock.now self.new) }
+    {
+        while self.documents < count {
+            self.add_next(alloc, stock)?;
+        }
+        Ok(())
     }
 
     // Answers the next document.
