@@ -1,5 +1,5 @@
 -- The lines of a script, and how each is spelled.
-use Rattle.std.specs.Prelude.{ℕ, ◌^◌, ◌<◌, ◌≤◌, nat_le, Bool, not, IsTrue, ◌==◌, ◌&&◌, List, [], ◌∷◌, ◌++◌, length, codes, decimal}
+use Rattle.std.specs.Prelude.{◌≡◌, ℕ, ◌^◌, ◌<◌, ◌≤◌, nat_le, Bool, not, IsTrue, ◌==◌, ◌&&◌, List, [], ◌∷◌, ◌++◌, length, codes, decimal}
 use Rattle.std.specs.List.{list_all}
 use Rattle.ld_history.specs.declared.limits.Limits.{Limits}
 use Rattle.ld_script.specs.declared.line.Line.{Line}
