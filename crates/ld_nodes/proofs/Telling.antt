@@ -127,7 +127,7 @@ module _ {K : Type 0} {cmp : K → K → Ordering} (total : IsTotalOrder cmp) wh
     pub tells_met : Tells cmp (met cmp table key)
     tells_met = record { below = λ q n e. below_of q n (known q n e); apart = λ a b n e f. apart_of a b n (known a n e) (known b n f) }
 
-  tells_none : Tells cmp []
+  pub tells_none : Tells cmp []
   tells_none = record { below = λ q n e. cc; apart = λ a b n e f. cc }
 
   tells_each : (keys : List K) (table : Table K) → Tells cmp table → Tells cmp (met_each cmp table keys)

@@ -1,22 +1,17 @@
 -- Flattening (JSON-LD 1.1 API, 7.1): a node map as a list of node objects.
-use Rattle.std.specs.Prelude.{◌≡◌, ℕ, ◌+◌, ◌==◌, Bool, ◌&&◌, cond, List, [], ◌∷◌, length, Option, None, Some, is_none, Result, Ok, Err, codes, filter_map, slice_index_or}
-use Rattle.std.specs.Map.{lookup}
-use Rattle.std.specs.BTreeMap.{is_at}
+use Rattle.std.specs.Prelude.{◌≡◌, ℕ, ◌==◌, Bool, ◌&&◌, cond, List, [], ◌∷◌, length, Option, None, Some, is_none, Result, Ok, Err, codes, filter_map}
 use Rattle.ld_codes.specs.declared.code.Code.{Code}
 use Rattle.ld_rec.specs.declared.stop.Stop.{Stop}
 use Rattle.ld_rec.specs.declared.stop.Stop.TheVariants as stop
 use Rattle.ld_tree.specs.Maps.{empty, put}
-use Rattle.ld_tree.specs.Names.{name_cmp, Sorted}
+use Rattle.ld_tree.specs.Names.{Sorted}
 use Rattle.ld_tree.specs.declared.tree.Tree.{Tree}
 use Rattle.ld_tree.specs.declared.tree.Tree.TheVariants as t
-use Rattle.ld_nodes.specs.Tables.{Table}
-use Rattle.ld_nodes.specs.Places.{Name, Nowhere}
-use Rattle.ld_nodes.specs.Walks.{Answer, start}
-use Rattle.ld_nodes.specs.Visits.{visited}
-use Rattle.ld_nodes.specs.Maps.{Properties, node_map}
+use Rattle.ld_nodes.specs.Names.{Graph, Name}
+use Rattle.ld_nodes.specs.NodeMap.{node_map}
 use Rattle.ld_nodes.specs.declared.node.Node.{Node}
 
-abbrev pub put_each : Sorted Tree → Properties → Sorted Tree
+abbrev pub put_each : Sorted Tree → List (Name × Tree) → Sorted Tree
 put_each es [] = es
 put_each es (property ∷ properties) = put_each (put es property.0 property.1) properties
 
@@ -47,25 +42,20 @@ objects nodes = filter_map (node_object None) nodes
 abbrev pub graph_of : List Node → Option (List Tree)
 graph_of nodes = cond (length nodes == 0) None (Some (objects nodes))
 
--- the graph of a number; that of the default graph is 0
-abbrev pub graph_at : List (List Node) → Option ℕ → Option (List Tree)
-graph_at graphs None = None
-graph_at graphs (Some number) = graph_of (slice_index_or graphs (number + 1) [])
+-- a node of the default graph, with the graph of its name
+abbrev pub flat_node : (Graph → List Node) → Node → Option Tree
+flat_node nodes node = node_object (graph_of (nodes (Some node.id))) node
 
--- a node of the default graph
-abbrev pub flat_object : List (List Node) → Table Name → Node → Option Tree
-flat_object graphs names node = node_object (graph_at graphs (lookup (is_at (name_cmp node.id)) names)) node
+abbrev pub flat_nodes : (Graph → List Node) → List Tree
+flat_nodes nodes = filter_map (flat_node nodes) (nodes None)
 
-abbrev pub flat_objects : List (List Node) → Table Name → List Tree
-flat_objects graphs names = filter_map (flat_object graphs names) (slice_index_or graphs 0 [])
-
-abbrev pub flattened_by : Answer → Result Tree Code
-flattened_by (Ok w) = Ok (t.List (flat_objects (node_map w) w.graphs))
+abbrev pub flattened_by : Result (Graph → List Node) Code → Result Tree Code
+flattened_by (Ok nodes) = Ok (t.List (flat_nodes nodes))
 flattened_by (Err e) = Err e
 
 -- the flattened form of an expanded document, or the code
 abbrev pub flattened : Tree → Result Tree Code
-flattened expanded = flattened_by (visited expanded 0 Nowhere start)
+flattened expanded = flattened_by (node_map expanded)
 
 -- the answer is the definition's, or memory was wanting
 abbrev pub Flattens : Result Tree Stop → Result Tree Code → Type 0

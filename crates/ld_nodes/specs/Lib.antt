@@ -1,6 +1,11 @@
 pub mod Flat
 pub mod Maps
+pub mod Names
+pub mod NodeMap
+pub mod Numbers
 pub mod Places
 pub mod Tables
+pub mod Tellings
+pub mod Told
 pub mod Visits
 pub mod Walks

@@ -1,4 +1,4 @@
--- The node map that a walk has gathered.
+-- The node map that the code's walk has gathered, by numbers.
 use Rattle.std.specs.Prelude.{ℕ, ◌+◌, List, [], length, map, replicate, slice_index_or}
 use Rattle.std.specs.Map.{lookup}
 use Rattle.std.specs.BTreeMap.{is_at}

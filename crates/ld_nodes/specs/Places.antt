@@ -1,12 +1,10 @@
 -- Where a walk stands, and what of a map it looks at: what the code's places and passes stand for.
-use Rattle.std.specs.Prelude.{ℕ, List}
+use Rattle.std.specs.Prelude.{ℕ}
+pub use Rattle.ld_nodes.specs.Names.{Name}
 use Rattle.ld_nodes.specs.declared.place.Place as code_place
 use Rattle.ld_nodes.specs.declared.place.Place.TheVariants as p
 use Rattle.ld_nodes.specs.declared.place.Pass as code_pass
 use Rattle.ld_nodes.specs.declared.place.Pass.TheVariants as q
-
-abbrev pub Name : Type 0
-Name = List ℕ
 
 -- where the value that an element gives belongs
 pub data Place : Type 0 where

@@ -1,4 +1,4 @@
--- Node map generation (JSON-LD 1.1 API, 7.2): what the walk over an element does.
+-- What the code's walk over an element does: the steps of Tellings, by numbers.
 use Rattle.std.specs.Prelude.{ℕ, Bool, true, false, not, List, [], ◌∷◌, Option, None, Some, Ok, codes, bytes_eq, is_some}
 use Rattle.ld_codes.specs.Keywords.{is_keyword}
 use Rattle.ld_rec.specs.Kinds.{is_value_object, is_list_object}

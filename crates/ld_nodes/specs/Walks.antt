@@ -1,5 +1,5 @@
--- What node map generation has gathered at a point of its walk (JSON-LD 1.1 API, 7.2), and what a single
--- thing that it meets does to that. Graphs, nodes and properties of nodes are spoken of by numbers.
+-- What the code's walk has gathered, and what a single thing that it meets does to that: the same as in Told, with graphs,
+-- nodes and properties of nodes spoken of by numbers.
 use Rattle.std.specs.Prelude.{◌≡◌, ℕ, ◌+◌, ◌==◌, Bool, cond, List, [], ◌∷◌, ◌++◌, map, Option, None, Some, option_and_then, Result, Ok, Err, unwrap_or, length, codes, bytes_eq}
 use Rattle.std.specs.Map.{lookup}
 use Rattle.std.specs.BTreeMap.{insert_entry, is_at}
@@ -18,6 +18,8 @@ use Rattle.ld_tree.specs.Names.{name_cmp}
 use Rattle.ld_tree.specs.Trees.{member}
 use Rattle.ld_tree.specs.declared.tree.Tree.{Tree, out-Tree}
 use Rattle.ld_tree.specs.declared.tree.Tree.TheOpen.{Tree-F}
+pub use Rattle.ld_nodes.specs.Names.{blank_name}
+pub use Rattle.ld_nodes.specs.Told.{list_object, reference, text_in, types_in}
 use Rattle.ld_nodes.specs.Places.{Name, Place, Nowhere, Row, Hand, ReverseMap, Reverse}
 use Rattle.ld_nodes.specs.Tables.{Table, number_of, met}
 use Rattle.ld_nodes.specs.declared.walk.Walker.{Walker}
@@ -78,10 +80,6 @@ Gives (Err (stop.Missing iri)) w answer = ⊥
 
 -- ---- names
 
--- the n-th new identifier
-abbrev pub blank_name : ℕ → Name
-blank_name n = codes "_:b" ++ decimal n
-
 -- the next new identifier is given
 abbrev pub give : Walk → Walk
 give w = record w { given = w.given + 1 }
@@ -103,10 +101,6 @@ give_where (Some number) name w = w
 
 abbrev pub rename : Name → Walk → Walk
 rename name w = cond (is_blank name) (give_where (number_given name w) name w) w
-
--- the text that stands there, where one does
-abbrev pub text_in : Option Tree → Option Name
-text_in value = option_and_then text_of value
 
 -- the identifier of a node that has this `@id`; one without gets the next new one
 abbrev pub identifier : Option Name → Walk → Name
@@ -148,13 +142,6 @@ put Hand value w = record w { hand = w.hand ++ value ∷ [] }
 put (ReverseMap subject) value w = w
 put (Reverse subject property) value w = w
 
--- a node object that has only its identifier
-abbrev pub reference : Name → Tree
-reference id = one_entry (codes "@id") (text_tree id)
-
-abbrev pub list_object : List Tree → Tree
-list_object items = one_entry (codes "@list") (list_of items)
-
 -- the node with the identifier and the number, as the place has it: under a reverse property the node gets a
 -- reference to the subject, and else a reference to the node goes to the place
 abbrev pub link : Place → Name → ℕ → Walk → Walk
@@ -165,10 +152,6 @@ link (ReverseMap subject) id node w = put (ReverseMap subject) (reference id) w
 link (Reverse subject property) id node w = put (Row (row_number node property w)) (reference subject) (meet_row node property w)
 
 -- ---- types
-
-abbrev pub types_in : Option Tree → List Tree
-types_in None = []
-types_in (Some types) = items_of types
 
 abbrev pub rename_text : Option Name → Walk → Walk
 rename_text None w = w

@@ -7,7 +7,8 @@ ghost use Rattle.ld_tree.specs.Names.{name_cmp};
 ghost use Rattle.ld_group.specs.Shelves.{IsLeftOf};
 ghost use Rattle.ld_tree.specs.declared.tree.Tree.{Tree};
 ghost use Rattle.ld_nodes.specs.declared.node.Node.{Node};
-ghost use Rattle.ld_nodes.specs.Flat.{put_each, put_graph, put_index, object_entries, is_bare, node_object, objects, graph_of, graph_at, flat_object, flat_objects, flattened, Flattens};
+ghost use Rattle.ld_nodes.specs.Flat.{put_each, put_graph, put_index, object_entries, is_bare, node_object, objects, graph_of, flattened, Flattens};
+ghost use Rattle.ld_nodes.specs.Numbers.{graph_at, flat_object, flat_objects};
 
 use crate::gathering::{NodeMap, gather};
 use crate::make::{no_entries, one_more, put_entry};

@@ -9,11 +9,12 @@ use Rattle.ld_edge.specs.declared.status.Status.TheVariants.{Done, Refused, Usag
 use Rattle.ld_script.proofs.Scripts.{not_bad}
 use Rattle.ld_once.proofs.Foreseen.{replied_foreseen}
 use Rattle.ld_once.proofs.Replied.{replied_once}
+use Rattle.ld_once.proofs.Soaks.{not_soak}
 use Rattle.ld_once.specs.declared.command.Command.{Command}
 use Rattle.ld_once.specs.declared.command.Command.TheVariants.{Document, Schedule}
 use Rattle.ld_answer.specs.declared.op.Op.TheVariants.{Expand, Compact, Flatten}
 use Rattle.ld_flight.specs.Loads.{Loading}
-use Rattle.ld_once.specs.Runs.{input_limit, IsForm, IsFormOf, IsPrinted, IsReply, word_of, Due, Reads, IsReadToEnd, IsReadFor, IsTelling, IsUnloading, IsUnlessFailed, IsUnlessLoadFailed, Ended, written, write_failed, read_failed, no_memory}
+use Rattle.ld_once.specs.Runs.{input_limit, IsForm, IsFormOf, IsPrinted, IsReply, word_of, Due, Reads, IsReadToEnd, IsReadFor, IsTelling, IsUnloading, IsUnlessFailed, IsUnlessLoadFailed, Ended, written, write_failed, read_failed, no_memory, soaked}
 
 abbrev first_of : List ℕ → ℕ
 first_of [] = 0
@@ -161,6 +162,7 @@ module _ (words : List (List ℕ)) (source source' : Incoming) (sink sink' : Out
   Ended-exact s (write_failed status read out' h reads front) bytes out due after told k unloading = inr (inr (inl (refl, front.0)))
   Ended-exact s (read_failed form rose same unasked) bytes out due after told k unloading = inr (inl (refl, rose))
   Ended-exact s (no_memory form count same cut) bytes out due after told k unloading = inr (inr (inr refl))
+  Ended-exact s (soaked status count form unread unasked is) bytes out due after told k unloading = absurd (not_soak words bytes out loader after due k (count, form))
 
   -- where the loader tells its answers too, the status is the one that is due, unless an object or a load failed or memory was wanting
   pub Ended-foreseen : (s : Status) → Ended words source source' sink sink' loader loader' s → (bytes out : List ℕ) (due : Status) (after : Loading) → IsTelling loader
@@ -173,3 +175,4 @@ module _ (words : List (List ℕ)) (source source' : Incoming) (sink sink' : Out
   Ended-foreseen s (write_failed status read out' h reads front) bytes out due after telling told k other = inl (inr (inr (inl (refl, front.0))))
   Ended-foreseen s (read_failed form rose same unasked) bytes out due after telling told k other = inl (inr (inl (refl, rose)))
   Ended-foreseen s (no_memory form count same cut) bytes out due after telling told k other = inl (inr (inr (inr refl)))
+  Ended-foreseen s (soaked status count form unread unasked is) bytes out due after telling told k other = absurd (not_soak words bytes out loader after due k (count, form))

@@ -5,4 +5,5 @@ pub mod Foreseen
 pub mod Found
 pub mod Known
 pub mod Replied
+pub mod Soaks
 pub mod Steps

@@ -14,6 +14,8 @@ use Rattle.ld_answer.specs.declared.refusal.EnvelopeRefusal.{EnvelopeRefusal}
 use Rattle.ld_flight.specs.Loads.{Answer, Loading}
 use Rattle.ld_script.specs.Scripts.{IsBadAt}
 use Rattle.ld_script.specs.Printed.{IsOutput}
+use Rattle.ld_soak.specs.Soaks.{AreSums, told}
+use Rattle.ld_soak.specs.declared.sums.Sums.{Sums}
 use Rattle.ld_once.specs.Loading.{answering, LoadsInPart}
 use Rattle.ld_once.specs.Outcomes.{IsReached, body_line, line}
 use Rattle.ld_once.specs.declared.command.Command.{Command}
@@ -34,9 +36,20 @@ word_of Schedule = codes "schedule"
 abbrev pub IsFormOf : List (List ℕ) → Command → Type 0
 IsFormOf words command = words ≡ word_of command ∷ []
 
--- the words that the program knows
+-- the words of the commands that read an input
 abbrev pub IsForm : List (List ℕ) → Type 0
 IsForm words = (command : Command) × IsFormOf words command
+
+-- the most documents of a soak
+abbrev pub soak_limit : ℕ
+soak_limit = 10000
+
+-- the words ask for a soak of so many documents: `soak`, and the number in decimal
+abbrev pub IsSoakOf : List (List ℕ) → ℕ → Type 0
+IsSoakOf words count = (1 ≤ count) × (count ≤ soak_limit) × (words ≡ codes "soak" ∷ decimal count ∷ [])
+
+abbrev pub IsSoak : List (List ℕ) → Type 0
+IsSoak words = (count : ℕ) × IsSoakOf words count
 
 abbrev pub usage : List ℕ
 usage = line (codes "usage: expand | compact | flatten | schedule | soak <n> | serve <address> <workers> <connections> <every>")
@@ -75,7 +88,7 @@ IsReply Schedule bytes loader loader' status out = IsPrinted bytes status out ×
 
 -- what is due for these words and this whole input, over what was loaded
 abbrev pub Due : List (List ℕ) → List ℕ → (loader loader' : Loading) → Status → List ℕ → Type 0
-Due words bytes loader loader' Usage out = (IsForm words → ⊥) × (out ≡ usage) × (loader' ≡ loader)
+Due words bytes loader loader' Usage out = (IsForm words → ⊥) × (IsSoak words → ⊥) × (out ≡ usage) × (loader' ≡ loader)
 Due words bytes loader loader' InputTooLong out = IsForm words × (input_limit < length bytes) × (out ≡ input_too_long) × (loader' ≡ loader)
 Due words bytes loader loader' status out = (command : Command) × IsFormOf words command × (length bytes ≤ input_limit) × IsReply command bytes loader loader' status out
 
@@ -108,6 +121,17 @@ pub data IsCutShort (words : List (List ℕ)) (source source' : Incoming) (loade
   in_part : (op : Op) (bytes : List ℕ) (envelope : Envelope) → IsFormOf words (Document op) → Reads source source' bytes → IsAccepted op bytes envelope
       → LoadsInPart (answering op envelope) loader loader' → NeverFalls loader.faults loader'.faults → IsCutShort words source source' loader loader'
 
+-- the line of a soak of so many documents
+abbrev pub IsSoakLine : ℕ → List ℕ → Type 0
+IsSoakLine count out = (sums : Sums) × AreSums count sums × (out ≡ line (told sums))
+
+-- how a soak ended: its line was written, or a front of it, or memory was wanting
+abbrev pub IsSoaked : ℕ → Outgoing → Outgoing → Status → Type 0
+IsSoaked count sink sink' Done = (out : List ℕ) × IsSoakLine count out × Writes sink sink' out
+IsSoaked count sink sink' WriteFault = (out : List ℕ) × IsSoakLine count out × WritesFront sink sink' out
+IsSoaked count sink sink' NoMemory = sink' ≡ sink
+IsSoaked count sink sink' _ = ⊥
+
 -- how a run ended, from what is told of the source, the sink and the loader before and after it
 pub data Ended (words : List (List ℕ)) (source source' : Incoming) (sink sink' : Outgoing) (loader loader' : Loading) : Status → Type 0 where
   -- what is due for the bytes that were read was written
@@ -121,6 +145,9 @@ pub data Ended (words : List (List ℕ)) (source source' : Incoming) (sink sink'
   -- the words are a command's, and no read or write failed
   no_memory : IsForm words → source'.faults ≡ source.faults → sink' ≡ sink → IsCutShort words source source' loader loader'
       → Ended words source source' sink sink' loader loader' NoMemory
+  -- the words ask for a soak, and nothing was read or loaded
+  soaked : (status : Status) (count : ℕ) → IsSoakOf words count → source' ≡ source → loader' ≡ loader → IsSoaked count sink sink' status
+      → Ended words source source' sink sink' loader loader' status
 
 -- the status is this one, unless an object failed or memory was wanting
 abbrev pub IsUnlessFailed : Status → Status → Incoming → Incoming → Outgoing → Outgoing → Type 0

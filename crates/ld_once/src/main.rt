@@ -18,6 +18,7 @@ mod reply;
 #[cfg(test)]
 mod rows;
 mod run;
+mod soak;
 #[cfg(test)]
 mod tests;
 

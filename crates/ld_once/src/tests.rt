@@ -155,6 +155,33 @@ fn runs_scripts(rt: HostRuntime) -> Result<(), Fail> {
     Ok(())
 }
 
+// No byte of the input is read.
+#[test]
+fn soaks(rt: HostRuntime) -> Result<(), Fail> {
+    let line = b"documents 7 loads 1 expanded 826 compacted 595 flattened 973 runs 57\n";
+    let seen = run(
+        rt.alloc(),
+        &["soak", "7"],
+        Vec::new(rt.alloc()),
+        4,
+        &[1],
+        &[],
+    )?;
+    assert_eq!(rt; seen.0, Status::Done);
+    assert_eq!(rt; seen.1.bytes(), line.as_slice());
+    let seen = run(
+        rt.alloc(),
+        &["soak", "7"],
+        Vec::new(rt.alloc()),
+        4,
+        &[],
+        &[3],
+    )?;
+    assert_eq!(rt; seen.0, Status::WriteFault);
+    assert_eq!(rt; seen.1.bytes(), &line[..8]);
+    Ok(())
+}
+
 #[test]
 fn each_read_and_write_may_fail(rt: HostRuntime) -> Result<(), Fail> {
     let alloc = rt.alloc();
@@ -181,11 +208,16 @@ fn each_read_and_write_may_fail(rt: HostRuntime) -> Result<(), Fail> {
 #[test]
 fn words_and_lengths_have_limits(rt: HostRuntime) -> Result<(), Fail> {
     let alloc = rt.alloc();
-    let forms: [&[&str]; 5] = [
+    let forms: [&[&str]; 10] = [
         &[],
         &["expand", "x"],
         &["Expand"],
         &["soak"],
+        &["soak", "0"],
+        &["soak", "07"],
+        &["soak", "10001"],
+        &["soak", "7", "x"],
+        &["expand", "7"],
         &["schedule", "expand"],
     ];
     for form in forms {

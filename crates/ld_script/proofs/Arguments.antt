@@ -5,8 +5,8 @@ use Rattle.ld_history.specs.declared.limits.Limits.{Limits}
 use Rattle.ld_history.specs.Legal.{AreWithin}
 use Rattle.ld_script.specs.declared.line.Line.TheVariants as line
 use Rattle.ld_script.specs.declared.verb.Verb.TheVariants as verb
-use Rattle.ld_script.specs.Lines.{is_word}
-use Rattle.ld_script.specs.Reading.{lacks, limits_words, AreArguments, IsGiven, IsNumber, IsSessionIri, IsSplit, IsSplitTwice}
+use Rattle.ld_script.specs.Lines.{is_word, IsNumber}
+use Rattle.ld_script.specs.Reading.{lacks, limits_words, AreArguments, IsGiven, IsSessionIri, IsSplit, IsSplitTwice}
 use Rattle.ld_script.proofs.Words.{no_split, split_front, split_back, decimal_lacks}
 
 pub same_front : {byte : ℕ} {text a b c d : List ℕ} → IsSplit byte text a b → IsSplit byte text c d → a ≡ c

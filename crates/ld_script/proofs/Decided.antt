@@ -11,9 +11,9 @@ use Rattle.ld_script.specs.declared.line.Line.{Line}
 use Rattle.ld_script.specs.declared.line.Line.TheVariants as line
 use Rattle.ld_script.specs.declared.verb.Verb.{Verb}
 use Rattle.ld_script.specs.declared.verb.Verb.TheVariants as verb
-use Rattle.ld_script.specs.Lines.{spelled, spelled_limits, is_word, IsGood}
+use Rattle.ld_script.specs.Lines.{spelled, spelled_limits, is_word, IsGood, IsNumber}
 use Rattle.ld_script.specs.Scripts.{text_of, AreGood, server, BeginsWithLine, BeginsWithLimits, IsScript, IsBadAt}
-use Rattle.ld_script.specs.Reading.{lacks, name, verb_of, arguments, limits_words, IsNumber, IsSplit, IsSplitTwice, IsVerb, IsSessionIri, IsGiven, AreArguments, IsLine, IsStuckAt}
+use Rattle.ld_script.specs.Reading.{lacks, name, verb_of, arguments, limits_words, IsSplit, IsSplitTwice, IsVerb, IsSessionIri, IsGiven, AreArguments, IsLine, IsStuckAt}
 use Rattle.ld_script.proofs.Arguments.{unsplit, same_front, same_back, no_second, no_session, no_iri, no_pair, no_given, no_given_flight, no_given_length, no_given_mark, no_fail, no_fail_flight, no_fail_before, no_fail_after, NoLimits, no_limits_alone, no_limits_few, no_contexts, no_held, no_events, no_bytes}
 use Rattle.ld_script.proofs.Lines.{no_spaces, no_verb, of_verb}
 use Rattle.ld_script.proofs.Apart.{limits_line_split, limits_line_words}

@@ -1,9 +1,14 @@
 -- The lines of a script, and how each is spelled.
-use Rattle.std.specs.Prelude.{ℕ, ◌^◌, ◌<◌, ◌≤◌, nat_le, Bool, not, IsTrue, ◌==◌, ◌&&◌, List, [], ◌∷◌, ◌++◌, length, codes, decimal}
+use Rattle.std.specs.Prelude.{◌≡◌, ℕ, ◌^◌, ◌<◌, ◌≤◌, nat_le, Bool, not, IsTrue, ◌==◌, ◌&&◌, List, [], ◌∷◌, ◌++◌, length, codes, decimal}
 use Rattle.std.specs.List.{list_all}
 use Rattle.ld_history.specs.declared.limits.Limits.{Limits}
 use Rattle.ld_script.specs.declared.line.Line.{Line}
 use Rattle.ld_script.specs.declared.line.Line.TheVariants as line
+
+-- the word spells the number, which is at most this
+pub record IsNumber (word : List ℕ) (most number : ℕ) : Type 0 where
+  pub bounded : number ≤ most
+  pub spelled : word ≡ decimal number
 
 -- words with one space between them
 abbrev pub spaced : List (List ℕ) → List ℕ

@@ -24,11 +24,6 @@ pub record IsSplitTwice (text first second third : List ℕ) : Type 0 where
   pub one : lacks 32 first ≡ true
   pub two : lacks 32 second ≡ true
 
--- the word spells the number, which is at most this
-pub record IsNumber (word : List ℕ) (most number : ℕ) : Type 0 where
-  pub bounded : number ≤ most
-  pub spelled : word ≡ decimal number
-
 -- a line's first word
 abbrev pub name : Verb → List ℕ
 name verb.Open = codes "open"

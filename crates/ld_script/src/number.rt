@@ -1,12 +1,12 @@
 //! Numbers as words: decimal digits without a sign, and no 0 before others.
 ghost use Rattle.std.specs.Prelude.{◌≡◌, ◌^◌, ◌<◌, ◌≤◌, ◌↔◌, IsTrue, ℕ, MatchOption, decimal};
-ghost use Rattle.ld_script.specs.Reading.{IsNumber};
+ghost use Rattle.ld_script.specs.Lines.{IsNumber};
 
 use itoa::Buffer;
 use std::str;
 
-/// The number that the word spells, if it is one that is at most `most`.
-pub(crate) fn read_number(word: &[u8], most: u64) -> Option<u64>
+/// The number that the word spells in decimal, without a sign or a needless zero, if it is one that is at most `most`.
+pub fn read_number(word: &[u8], most: u64) -> Option<u64>
     ensures { MatchOption result ((n : ℕ) → IsNumber word.now most n → ⊥) (λ n. IsNumber word.now most n) }
 {
     let number = parse(word)?;

@@ -3,10 +3,10 @@ use Rattle.ld_edge.specs.declared.status.Status.TheVariants as ended
 use Rattle.ld_once.specs.Replies.{IsUnfinished}
 use Rattle.ld_once.specs.Runs.{IsReply, usage, input_too_long, read_failed, no_memory, unasked}
 use Rattle.ld_once.proofs.Endings.{finished, reply_is, Due-reply, IsReadFor-reply, cut}
-use Rattle.ld_once.proofs.run.run.Goals as goal
+use Rattle.ld_once.proofs.run.run_command.Goals as goal
 
 pub returns-in_default : goal.returns-in_default
-returns-in_default g c = finished _ _ _ _ _ _ _ ended.Usage c.finish.result [] usage (c.in_default.ensures, refl, refl) refl c.finish.ensures
+returns-in_default g c = finished _ _ _ _ _ _ _ ended.Usage c.finish.result [] usage (c.in_default.ensures, c.requires, refl, refl) refl c.finish.ensures
 
 pub returns-in-Ok : goal.returns-in-Ok
 returns-in-Ok g c =
