@@ -2,6 +2,10 @@
 use Rattle.std.proofs.Common.{◌≡◌, ℕ, List, [], ◌∷◌, ◌++◌, refl, sym, ap, ◌∙◌, subst, true, Option, Some, None, append-nil}
 use Rattle.std.specs.Prelude.{is_some, map, Result, Ok, Err, OnOk}
 use Rattle.std.specs.Option.{option_map}
+use Rattle.std.specs.Arc.{arc_value}
+use Rattle.std.specs.declared.sync.Arc.{Arc}
+use Rattle.std.specs.declared.alloc.Global.{Global}
+use Rattle.std.proofs.lemmas.List.{map-append}
 use Rattle.ld_rec.specs.declared.doc.Doc.{Doc}
 use Rattle.ld_store.specs.Snapshots.{Shot, doc_of, stock_at}
 use Rattle.ld_tree.specs.formers.entries.Entries.{on_value}
@@ -17,7 +21,7 @@ use Rattle.ld_book.specs.Pages.{Pages, Booked, entries_of, history_of, state_of,
 use Rattle.ld_book.specs.Documents.{ArePages}
 use Rattle.ld_book.specs.Said.{Says}
 use Rattle.ld_book.proofs.Taking.{says_so}
-use Rattle.ld_book.specs.Kept.{paged, left_of, booked, Shows, IsBook}
+use Rattle.ld_book.specs.Kept.{values_in, paged, left_of, booked, Shows, IsBook}
 use Rattle.ld_book.proofs.Paging.{entries_paged, history_booked, booked_on, paged_on, paged_with}
 use Rattle.ld_book.proofs.Showing.{placed_documents, placed_flights}
 
@@ -75,6 +79,11 @@ module _ (h : History) (docs : List Doc) (book : Booked) (view : booked h docs �
   -- the history stays
   pub still : (next : History) → next ≡ h → booked next docs ≡ book
   still next is = ap (λ (x : History). booked x docs) is ∙ view
+
+-- one more document that is kept
+pub values_more : (documents grew : List (Arc Doc Global)) (kept : Arc Doc Global) (doc : Doc) → grew ≡ documents ++ kept ∷ [] → arc_value kept ≡ doc → values_in grew ≡ values_in documents ++ doc ∷ []
+values_more documents grew kept doc is same =
+    ap values_in is ∙ map-append (λ (d : Arc Doc Global). arc_value d) documents (kept ∷ []) ∙ ap (λ (d : Doc). values_in documents ++ d ∷ []) same
 
 -- said wherever the call is taken
 pub whenever : {T E X : Type 0} (r : Result T E) → X → OnOk r X

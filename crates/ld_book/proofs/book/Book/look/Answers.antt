@@ -6,6 +6,7 @@ use Rattle.ld_history.specs.Store.{Store}
 use Rattle.ld_history.specs.Words.{flight_at}
 use Rattle.ld_history.specs.Rules.{end_of}
 use Rattle.ld_history.specs.Legal.{History, state}
+use Rattle.ld_book.specs.declared.answers.LookAnswer.{LookAnswer}
 use Rattle.ld_book.specs.Kept.{values_in}
 use Rattle.ld_book.specs.Said.{told_end}
 use Rattle.ld_book.proofs.Viewing.{in_state, seen}
@@ -25,4 +26,4 @@ pub returns : goal.returns
 returns c =
     let s = c.self.inside in
     ap (λ (h : History). option_map told_end (end_of (state h.entries) c.args.flight)) (seen s.state (values_in s.documents.items) c.args.self.now c.self.view_is)
-    ∙ ap (option_map told_end) (sym c.end_of.ensures) ∙ ?
+    ∙ ap (option_map told_end) (sym c.end_of.ensures ∙ c.unwrap.ensures) ∙ sym (ap (λ (x : LookAnswer). Some x) c.told_end.ensures)
