@@ -1,6 +1,6 @@
 ghost use Rattle.std.specs.Prelude.{◌≡◌, [], length, IfOk};
 ghost use Rattle.ld_history.specs.Legal.{AreWithin, Legal};
-ghost use Rattle.ld_book.specs.Pages.{entries_of, state_of};
+ghost use Rattle.ld_book.specs.Pages.{entries_of, history_of, state_of};
 ghost use Rattle.ld_book.specs.Documents.{ArePages};
 
 use ld_flight::Tower;
@@ -64,6 +64,13 @@ impl Book {
         ensures documents { ArePages self.now.pages }
     {
         self.state.events()
+    }
+
+    /// The history, which tells what may come next.
+    pub fn history(&self) -> &State
+        ensures { result.now ≡ history_of self.now }
+    {
+        &self.state
     }
 
     /// The number of the current version.
