@@ -7,7 +7,7 @@ ghost use Rattle.ld_tree.specs.declared.tree.Tree.{Tree};
 ghost use Rattle.ld_tree_read.specs.Steps.{Known};
 ghost use Rattle.ld_rec.specs.Documents.{IsStored, Keeps};
 ghost use Rattle.ld_flight.specs.Loads.{longest_text, IsDocument};
-ghost use Rattle.ld_flight.specs.Readied.{text_in};
+ghost use Rattle.ld_flight.specs.Readied.{Tells, text_in};
 
 use crate::given::mark_of;
 use crate::loader::Loaded;
@@ -41,6 +41,10 @@ impl Model for Ready {
     ghost coded = { Prim.hlevel (codes, docs.the_row.coded) };
 
     ghost view = { λ r. record { pass = r.pass; doc = arc_value r.doc; length = r.length; mark = r.mark } };
+
+    ghost use Rattle.ld_flight.specs.Readied.{Tells};
+
+    ghost invariant = { λ r. Tells (arc_value r.doc) r.length r.mark };
 }
 
 impl Ready {
@@ -65,7 +69,8 @@ impl Ready {
 
     /// How many bytes the text had; 1,048,577 stands for more, too.
     pub fn length(&self) -> u32
-        ensures { result ≡ self.now.length }
+        ensures length { result ≡ self.now.length }
+        ensures tells { Tells self.now.doc self.now.length self.now.mark }
     {
         self.length
     }

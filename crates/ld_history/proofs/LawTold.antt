@@ -98,7 +98,7 @@ module _ (a b : rules.Had) (limits : Limits) (store : Store) (alike : (n : ℕ) 
 
 -- ---- legal histories
 module _ (limits : Limits) (entries : Entries) (legal : turns.Legal limits entries) where
-  stock_alike : (n : ℕ) (s : Session) → at_number (state entries).sessions n ≡ Some s → (iri : List ℕ) → is_in_stock entries iri s.version ≡ was_stored (state entries) iri s.version
+  pub stock_alike : (n : ℕ) (s : Session) → at_number (state entries).sessions n ≡ Some s → (iri : List ℕ) → is_in_stock entries iri s.version ≡ was_stored (state entries) iri s.version
   stock_alike n s is iri = sym (turns_tell limits entries legal iri s.version ((sound limits entries legal).crew.each n s is).pinned)
 
   pub allowed_alike : (entry : Entry (List ℕ) Given) → is_allowed limits entries entry ≡ turns.allows limits (state entries) entry

@@ -9,6 +9,7 @@ use Rattle.ld_history.specs.declared.answers.PinAnswer.{PinAnswer}
 use Rattle.ld_history.specs.declared.answers.PinAnswer.TheVariants as pin_answer
 use Rattle.ld_history.specs.declared.answers.LackAnswer.{LackAnswer}
 use Rattle.ld_history.specs.declared.answers.LackAnswer.TheVariants as lack_answer
+use Rattle.ld_history.specs.declared.answers.Out.{Out}
 use Rattle.ld_history.specs.declared.answers.PublishAnswer.{PublishAnswer}
 use Rattle.ld_history.specs.declared.answers.PublishAnswer.TheVariants as publish_answer
 use Rattle.ld_history.specs.declared.answers.EvictAnswer.{EvictAnswer}
@@ -155,6 +156,16 @@ lack_taken had limits store session iri = of_session store session (λ s. if may
 
 abbrev pub lack_step : History → ℕ → List ℕ → Option (Taken LackAnswer)
 lack_step history session iri = lack_taken (is_in_stock history.entries) history.limits (state history.entries) session iri
+
+-- what goes out of the store for the answer
+abbrev pub out_for : LackAnswer → Option Out
+out_for (lack_answer.Led flight out) = out
+out_for _ = None
+
+-- what goes out of the store at the step, if it is allowed
+abbrev pub out_at : Option (Taken LackAnswer) → Option Out
+out_at None = None
+out_at (Some t) = out_for t.answer
 
 -- ---- publish: the flight is under way, and the answer's length is at most 1,048,577
 

@@ -39,7 +39,7 @@ impl Tables {
         }
     }
 
-    fn may_lack(&self, iri: &Name, s: &Session) -> bool
+    pub fn may_lack(&self, iri: &Name, s: &Session) -> bool
         ensures { result ≡ may_lack (seen self.now) iri.now s.now }
     {
         s.last.is_pinned()

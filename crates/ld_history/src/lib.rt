@@ -4,7 +4,9 @@
 //! Make a `State`, and call its steps (`open_session`, `pin`, `lack`, `publish`, `fail`, `lapse`, `answer`,
 //! `evict`, `revise`, `close_session`), each of which finds its case and appends an entry or two, or `step`,
 //! which appends an entry that is given. `fail`, `lapse`, `answer` and `close_session` take no memory and refuse
-//! nothing: ask `may_fail` and the like first. `State::entry` and `State::limits` show all that a state is seen as.
+//! nothing: ask `may_fail` and the like first. The others say themselves where they aren't allowed, which `may_open`,
+//! `may_pin`, `may_lack` and `has_pinned` tell ahead; `out_of_lack` tells ahead what goes out for a lack.
+//! `State::entry` and `State::limits` show all that a state is seen as.
 //! The laws of every legal history are `versions_rise`, `stocks_are_told` and the others beside them.
 //!
 //! Of `specs/`, to be believed are Store, Words, Rules, After and Legal (which histories are legal, and what
@@ -28,6 +30,7 @@ mod lacking;
 mod laws;
 mod limits;
 mod make_place;
+mod may;
 mod name;
 mod next_out;
 mod order;

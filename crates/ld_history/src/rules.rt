@@ -431,7 +431,7 @@ impl Tables {
         self.is_flying(flight)
     }
 
-    fn has_pinned(&self, session: u32) -> bool
+    pub fn has_pinned(&self, session: u32) -> bool
         ensures { result ≡ rules.has_pinned (seen self.now) session }
     {
         match self.session(session) {

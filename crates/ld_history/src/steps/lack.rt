@@ -3,11 +3,12 @@ ghost use Rattle.std.specs.Prelude.{◌≡◌, true, [], ◌∷◌, ◌++◌, No
 ghost use Rattle.ld_history.specs.Legal as legal;
 ghost use Rattle.ld_history.specs.ByTurns.{allows};
 ghost use Rattle.ld_history.specs.After.{after};
-ghost use Rattle.ld_history.specs.Plans.{goes_out, comes_in};
-ghost use Rattle.ld_history.specs.Steps.{Answers, grown, lack_step, plain};
+ghost use Rattle.ld_history.specs.Plans.{goes_out, comes_in, lack_planned};
+ghost use Rattle.ld_history.specs.Steps.{Answers, grown, lack_step, out_at, out_for, plain};
 
 use crate::answers::{LackAnswer, Out};
 use crate::event::Event;
+use crate::name::Name;
 use crate::plans::{LackPlan, Replacement};
 use crate::refusal::StepRefusal;
 use crate::state::{State, append};
@@ -45,6 +46,44 @@ impl State {
                     out: Some(out),
                 })
             }
+        }
+    }
+}
+
+impl State {
+    /// What goes out of the store where the request lacks this context, if anything does. Nothing is appended.
+    pub fn out_of_lack(&self, session: u32, iri: &Name) -> Result<Option<Out>, NoMemory>
+        ensures { IfOk result (λ out. out ≡ out_at (lack_step self.now session iri.now)) }
+    {
+        match self.tables.lacking(&self.limits, session, iri)? {
+            Some(plan) => Ok(plan.into_out()),
+            None => Ok(None),
+        }
+    }
+}
+
+impl LackPlan {
+    /// What goes out of the store.
+    fn into_out(self) -> Option<Out>
+        ensures { result ≡ out_for (lack_planned self).answer }
+    {
+        match self {
+            LackPlan::One { answer, event: _ } => answer.into_out(),
+            LackPlan::Replace(r) => Some(Out {
+                iri: r.out,
+                version: r.version,
+            }),
+        }
+    }
+}
+
+impl LackAnswer {
+    fn into_out(self) -> Option<Out>
+        ensures { result ≡ out_for self }
+    {
+        match self {
+            LackAnswer::Led { flight: _, out } => out,
+            _ => None,
         }
     }
 }

@@ -1,0 +1,9 @@
+pub mod Paging
+pub mod Steady
+pub mod Showing
+pub mod Keeping
+pub mod Saying
+pub mod Taking
+pub mod Viewing
+pub mod Allowing
+pub mod Counting
