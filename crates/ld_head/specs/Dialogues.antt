@@ -90,6 +90,11 @@ ends_at _ = Inside false
 abbrev pub silence : Ending → Dialogue
 silence ending = record { items = []; ending = ending }
 
+-- the interim text is due where the input ends so
+abbrev pub is_due_at : Ending → Bool
+is_due_at (Inside interim) = interim
+is_due_at _ = false
+
 abbrev pub before : Marked → Dialogue → Dialogue
 before item d = record { items = item ∷ d.items; ending = d.ending }
 
