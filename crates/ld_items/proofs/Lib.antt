@@ -1,2 +1,3 @@
 pub mod Arriving
+pub mod Saying
 pub mod Taken
