@@ -8,7 +8,8 @@ use std::alloc::Global;
 use std::process::Abort;
 use std::test::Fail;
 
-const ASKING: &str = "POST /expand HTTP/1.1\r\nHost: h\r\nExpect: 100-continue\r\nContent-Length: 3\r\n\r\nabc";
+const ASKING: &str =
+    "POST /expand HTTP/1.1\r\nHost: h\r\nExpect: 100-continue\r\nContent-Length: 3\r\n\r\nabc";
 
 const PLAIN: &str = "\r\nPOST /evict HTTP/1.1\r\nHost: h\r\nContent-Length: 2\r\n\r\n{}";
 
