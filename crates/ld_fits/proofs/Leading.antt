@@ -39,9 +39,9 @@ use Rattle.ld_rec.specs.declared.stop.Stop.{Stop}
 use Rattle.ld_rec.specs.declared.stop.Stop.TheVariants as stop
 use Rattle.ld_tree.specs.declared.tree.Tree.{Tree}
 use Rattle.ld_fits.specs.Leading.{after_evict, after_lack, after_revise}
-use Rattle.ld_fits.specs.Own.{Placed, placed, own_placed_from}
+use Rattle.ld_own.specs.Own.{Placed, placed, own_placed_from}
 use Rattle.ld_fits.specs.Play.{Evicting, Gone, Lacking, Pinned, Placing, Reloading, Request, Revising, Stage, Wrong, has_no_place, lacks, led_if, play, replied, revises, step}
-use Rattle.ld_fits.proofs.Adding.{one_own}
+use Rattle.ld_own.proofs.Adding.{one_own}
 
 same_number : (n : ℕ) → (n == n) ≡ true
 same_number n = eq-eqb n n refl

@@ -13,9 +13,9 @@ use Rattle.ld_history.specs.declared.limits.Limits.{Limits}
 use Rattle.ld_rec.specs.Outcome.{Stock}
 use Rattle.ld_fits.specs.Asks.{Asked, Evaluation, Revision, Eviction, Unrecorded, Heard}
 use Rattle.ld_fits.specs.Fits.{AgreeUpTo, Fits, Goes, Leads, PinWithin, pins_within}
-use Rattle.ld_fits.specs.Own.{Placed, own_placed}
+use Rattle.ld_own.specs.Own.{Placed, own_placed}
 use Rattle.ld_fits.specs.Play.{Stage, Request, Fresh, Idle, Pinned, Placing, Lacking, Revising, Reloading, Evicting, Gone, Shut, Wrong, begun, pinned, play, step}
-use Rattle.ld_fits.proofs.Growing.{unchanged}
+use Rattle.ld_own.proofs.Growing.{unchanged}
 
 pub leads_on : (limits : Limits) (stock : ℕ → Stock) (from via to : Stage) (mine more : List Placed)
     → Leads limits stock from mine via → Leads limits stock via more to → Leads limits stock from (mine ++ more) to

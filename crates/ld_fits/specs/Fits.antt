@@ -8,7 +8,7 @@ use Rattle.ld_history.specs.Legal.{Entries}
 use Rattle.ld_history.specs.declared.limits.Limits.{Limits}
 use Rattle.ld_rec.specs.Outcome.{Stock}
 use Rattle.ld_fits.specs.Asks.{Heard}
-use Rattle.ld_fits.specs.Own.{Placed, own_placed}
+use Rattle.ld_own.specs.Own.{Placed, own_placed}
 use Rattle.ld_fits.specs.Play.{Stage, Fresh, Shut, play}
 
 -- own entries lead from one stage to another, where this is what each version has

@@ -26,7 +26,7 @@ use Rattle.ld_rec.specs.declared.stop.Stop.{Stop}
 use Rattle.ld_rec.specs.declared.stop.Stop.TheVariants as stop
 use Rattle.ld_tree.specs.declared.tree.Tree.{Tree}
 use Rattle.ld_fits.specs.Asks.{Asked, Evaluation, Revision, Eviction, Unrecorded, Heard}
-use Rattle.ld_fits.specs.Own.{Placed}
+use Rattle.ld_own.specs.Own.{Placed}
 
 -- ---- where a session stands
 

@@ -1,6 +1,5 @@
 //! What the definitions say, law by law. The function that carries a law does nothing.
-ghost use Rattle.std.specs.Prelude.{◌≡◌, ◌≢◌, ◌<◌, ◌≤◌, ℕ, List, [], ◌∷◌, ◌++◌, length, map, Some, None, Ok, Err, ◌==◌, true};
-ghost use mathlib.Core.List.{IsPrefix};
+ghost use Rattle.std.specs.Prelude.{◌≡◌, ℕ, List, [], ◌∷◌, ◌++◌, Some, None, Ok, Err, ◌==◌, true};
 ghost use Rattle.ld_answer.specs.Answers.{answered};
 ghost use Rattle.ld_answer.specs.Envelopes.{IsAccepted};
 ghost use Rattle.ld_answer.specs.declared.envelope.Envelope.{Envelope};
@@ -10,54 +9,24 @@ ghost use Rattle.ld_head.specs.declared.dialogue.Marks.{Marks};
 ghost use Rattle.ld_head.specs.declared.outcome.Outcome.TheVariants as outcome;
 ghost use Rattle.ld_head.specs.declared.path.Path.{Path};
 ghost use Rattle.ld_history.specs.Counts.{own_from, owner};
+ghost use Rattle.ld_history.specs.Legal.{Entries, Legal, state};
 ghost use Rattle.ld_history.specs.Steps.{Taken, evict_step, lack_step, revise_step};
+ghost use Rattle.ld_history.specs.Store.{Store};
 ghost use Rattle.ld_history.specs.declared.answers.EvictAnswer.{EvictAnswer};
 ghost use Rattle.ld_history.specs.declared.answers.LackAnswer.{LackAnswer};
 ghost use Rattle.ld_history.specs.declared.answers.ReviseAnswer.{ReviseAnswer};
 ghost use Rattle.ld_history.specs.declared.event.Entry.{Entry};
 ghost use Rattle.ld_history.specs.declared.event.Given.{Given};
-ghost use Rattle.ld_history.specs.Legal.{Entries, Legal, replay, state};
-ghost use Rattle.ld_history.specs.Seats.{opened_in, seat_of};
-ghost use Rattle.ld_history.specs.Words.{at_number};
-ghost use Rattle.ld_flight.specs.declared.given.Given as loader;
-ghost use Rattle.ld_history.specs.Store.{Store};
 ghost use Rattle.ld_history.specs.declared.limits.Limits.{Limits};
+ghost use Rattle.ld_own.specs.Own.{Placed, own_placed, own_placed_from};
 ghost use Rattle.ld_rec.specs.Outcome.{Stock};
 ghost use Rattle.ld_rec.specs.declared.stop.Stop.TheVariants as stop;
 ghost use Rattle.ld_tree.specs.declared.tree.Tree.{Tree};
-ghost use Rattle.ld_fits.specs.Adding.{Adds};
 ghost use Rattle.ld_fits.specs.Asks.{operation};
 ghost use Rattle.ld_fits.specs.Examples.{evaluated, unrecorded};
 ghost use Rattle.ld_fits.specs.Fits.{AgreeUpTo, Fits, Goes, Leads, PinWithin};
 ghost use Rattle.ld_fits.specs.Leading.{after_evict, after_lack, after_revise};
-ghost use Rattle.ld_fits.specs.Loads.{Gained, Spans};
-ghost use Rattle.ld_fits.specs.Own.{Placed, own_placed, own_placed_from};
 ghost use Rattle.ld_fits.specs.Play.{Evicting, Pinned, Request, Revising, Stage, item_text, step};
-
-/// The entries that are placed are the session's own ones, and those of a longer list begin with them.
-pub fn own_entries_are_placed()
-    ensures own { (store : Store) (session : ℕ) (entries : Entries) → map (λ p. p.entry) (own_placed_from store session entries) ≡ own_from store session entries }
-    ensures grow { (store : Store) (session : ℕ) (front back : Entries)
-        → own_placed_from store session (front ++ back) ≡ own_placed_from store session front ++ own_placed_from (replay store front) session back }
-{}
-
-/// What a session has added from one front to another adds up, and is what its own entries gain. None of what came while
-/// its seat had no turn is the session's, where none belongs to the seat; and none comes once the session is closed.
-pub fn additions_add_up()
-    ensures none { (session : ℕ) (front : Entries) → Adds session front [] front }
-    ensures more { (session : ℕ) (a b c : Entries) (mine more : List Placed) → Adds session a mine b → Adds session b more c → Adds session a (mine ++ more) c }
-    ensures own { (session : ℕ) (front later : Entries) (mine : List Placed) → Adds session front mine later → own_placed session later ≡ own_placed session front ++ mine }
-    ensures quiet { (session seat : ℕ) (front later : Entries) → opened_in front session ≡ Some seat → IsPrefix front later
-        → ((place : ℕ) → length front ≤ place → place < length later → seat_of later place ≢ Some seat) → Adds session front [] later }
-    ensures closed { (limits : Limits) (session : ℕ) (front more : Entries) → limits.held ≤ 64 → Legal limits (front ++ more)
-        → session ≤ (state front).opened → at_number (state front).sessions session ≡ None → Adds session front [] (front ++ more) }
-{}
-
-/// What a loader gave, and the spans of its failures, add up as the session's entries do.
-pub fn loads_add_up()
-    ensures gained { (mine more : List Placed) (gained later : List loader.Given) → Gained mine gained → Gained more later → Gained (mine ++ more) (gained ++ later) }
-    ensures spans { (low count high : ℕ) (mine more : List Placed) → Spans low mine count → Spans count more high → Spans low (mine ++ more) high }
-{}
 
 /// Entries lead on from where others led, and what they lead to stays as the history grows: it reads no more of it than
 /// the stocks of the versions that they pin.

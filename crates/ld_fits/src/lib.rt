@@ -7,17 +7,10 @@
 //! each item after another.
 //!
 //! To be believed: `specs/Asks.antt` (what an item asks for, from its bytes), `specs/Play.antt` (where each entry of a session
-//! leads), `specs/Fits.antt`, and `specs/Loads.antt` (what a session's loader gave and how it failed). `specs/Own.antt` lists
-//! a session's entries, each in the state before it, `specs/Adding.antt` says what it has added between two fronts, and
-//! `specs/Leading.antt` where the steps of the history lead it.
-//!
-//! The laws: `own_entries_are_placed`, `additions_add_up`, `loads_add_up`, `stages_go_on`, `steps_lead`,
-//! `fits_stay`, `short_sessions_fit`.
+//! leads) and `specs/Fits.antt`. `specs/Leading.antt` says where the steps of the history lead a session, by what they answer,
+//! and `specs/Examples.antt` has two short histories. Laws: `stages_go_on`, `steps_lead`, `fits_stay`, `short_sessions_fit`.
 #![tactic(auto)]
 
 mod laws;
 
-pub use laws::{
-    additions_add_up, fits_stay, loads_add_up, own_entries_are_placed, short_sessions_fit,
-    stages_go_on, steps_lead,
-};
+pub use laws::{fits_stay, short_sessions_fit, stages_go_on, steps_lead};

@@ -1,7 +1,7 @@
 use Rattle.std.proofs.Common.{◌++◌, refl}
-use Rattle.ld_fits.proofs.Adding.{adds_none, adds_own, adds_trans, quiet_adds}
-use Rattle.ld_fits.proofs.Closing.{gone_stays}
-use Rattle.ld_fits.proofs.laws.additions_add_up.Goals as goal
+use Rattle.ld_own.proofs.Adding.{adds_none, adds_own, adds_trans, quiet_adds}
+use Rattle.ld_own.proofs.Closing.{gone_stays}
+use Rattle.ld_own.proofs.laws.additions_add_up.Goals as goal
 
 pub returns-clause-none : goal.returns-clause-none
 returns-clause-none c session front = adds_none session front

@@ -26,7 +26,7 @@ use Rattle.ld_history.proofs.LawReads.{read_close, read_open, read_pin}
 use Rattle.ld_history.proofs.LawSound.{Sound, sound, sound-after}
 use Rattle.ld_history.proofs.LawTold.{by_turns}
 use Rattle.ld_history.proofs.LawTracked.{is_inside, moved}
-use Rattle.ld_fits.specs.Own.{Placed, placed, own_placed_from}
+use Rattle.ld_own.specs.Own.{Placed, placed, own_placed_from}
 
 -- the session is over
 pub record IsGone (store : Store) (session : ℕ) : Type 0 where
@@ -93,21 +93,21 @@ module _ (limits : Limits) (small : limits.held ≤ 64) (session : ℕ) where
   passes store (Some g) (event.Opened n k) h gone ok = cc
   passes store None (event.Closed n) h gone ok = let p = read_close store n ok in passes_closed store n p.s gone p.is (number_cases session n)
   passes store (Some g) (event.Closed n) h gone ok = cc
-  passes store given (event.Pinned s r t v) h gone ok = passes_inside store _ h gone refl ok
-  passes store given (event.Found s iri) h gone ok = passes_inside store _ h gone refl ok
-  passes store given (event.Led s iri f) h gone ok = passes_inside store _ h gone refl ok
-  passes store given (event.Joined s iri f) h gone ok = passes_inside store _ h gone refl ok
-  passes store given (event.Published f v) h gone ok = passes_inside store _ h gone refl ok
-  passes store given (event.Failed f x y) h gone ok = passes_inside store _ h gone refl ok
-  passes store given (event.Lapsed f) h gone ok = passes_inside store _ h gone refl ok
-  passes store given (event.Evicted s iri v) h gone ok = passes_inside store _ h gone refl ok
-  passes store given (event.ReviseLed s iri f) h gone ok = passes_inside store _ h gone refl ok
-  passes store given (event.Same f) h gone ok = passes_inside store _ h gone refl ok
-  passes store given (event.Answered s r how) h gone ok = passes_inside store _ h gone refl ok
+  passes store given (event.Pinned s r t v) h gone ok = passes_inside store (record { event = event.Pinned s r t v; given = given }) h gone refl ok
+  passes store given (event.Found s iri) h gone ok = passes_inside store (record { event = event.Found s iri; given = given }) h gone refl ok
+  passes store given (event.Led s iri f) h gone ok = passes_inside store (record { event = event.Led s iri f; given = given }) h gone refl ok
+  passes store given (event.Joined s iri f) h gone ok = passes_inside store (record { event = event.Joined s iri f; given = given }) h gone refl ok
+  passes store given (event.Published f v) h gone ok = passes_inside store (record { event = event.Published f v; given = given }) h gone refl ok
+  passes store given (event.Failed f x y) h gone ok = passes_inside store (record { event = event.Failed f x y; given = given }) h gone refl ok
+  passes store given (event.Lapsed f) h gone ok = passes_inside store (record { event = event.Lapsed f; given = given }) h gone refl ok
+  passes store given (event.Evicted s iri v) h gone ok = passes_inside store (record { event = event.Evicted s iri v; given = given }) h gone refl ok
+  passes store given (event.ReviseLed s iri f) h gone ok = passes_inside store (record { event = event.ReviseLed s iri f; given = given }) h gone refl ok
+  passes store given (event.Same f) h gone ok = passes_inside store (record { event = event.Same f; given = given }) h gone refl ok
+  passes store given (event.Answered s r how) h gone ok = passes_inside store (record { event = event.Answered s r how; given = given }) h gone refl ok
 
   not_listed : (mine : Bool) (p : Placed) (rest : List Placed) → (mine ≡ true → ⊥) → rest ≡ [] → (if mine then p ∷ [] else []) ++ rest ≡ []
-  not_listed false p rest no none = none
-  not_listed true p rest no none = absurd (no refl)
+  not_listed false p rest other none = none
+  not_listed true p rest other none = absurd (other refl)
 
   gone_from : (store : Store) (more : Entries) → Sound limits store → IsGone store session → LegalFrom limits store more → own_placed_from store session more ≡ []
   gone_from store [] h gone legal = refl

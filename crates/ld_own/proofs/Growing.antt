@@ -7,7 +7,7 @@ use Rattle.ld_history.specs.Legal.{Entries, replay}
 use Rattle.ld_history.specs.Store.{Store}
 use Rattle.ld_history.specs.declared.event.Given.{Given}
 use Rattle.ld_history.specs.declared.event.Entry.{Entry}
-use Rattle.ld_fits.specs.Own.{Placed, placed, own_placed_from}
+use Rattle.ld_own.specs.Own.{Placed, placed, own_placed_from}
 
 abbrev entry_of : Placed → Entry (List ℕ) Given
 entry_of p = p.entry

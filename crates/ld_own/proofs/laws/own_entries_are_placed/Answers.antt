@@ -1,5 +1,5 @@
-use Rattle.ld_fits.proofs.Growing.{grown, listed}
-use Rattle.ld_fits.proofs.laws.own_entries_are_placed.Goals as goal
+use Rattle.ld_own.proofs.Growing.{grown, listed}
+use Rattle.ld_own.proofs.laws.own_entries_are_placed.Goals as goal
 
 pub returns-clause-own : goal.returns-clause-own
 returns-clause-own c store session entries = listed store session entries

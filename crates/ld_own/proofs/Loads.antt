@@ -3,8 +3,8 @@ use Rattle.std.proofs.Common.{◌≡◌, ◌∙◌, ℕ, ◌≤◌, List, [], �
 use Rattle.ld_flight.specs.declared.given.Given as loader
 use Rattle.ld_history.specs.declared.event.Event.{Event}
 use Rattle.ld_history.specs.declared.event.Event.TheVariants as event
-use Rattle.ld_fits.specs.Loads.{Gained, Spans, after_fault}
-use Rattle.ld_fits.specs.Own.{Placed}
+use Rattle.ld_own.specs.Loads.{Gained, Spans, after_fault}
+use Rattle.ld_own.specs.Own.{Placed}
 
 pub gained_on : (xs ys : List Placed) (a b : List loader.Given) → Gained xs a → Gained ys b → Gained (xs ++ ys) (a ++ b)
 gained_on [] ys a b h k = subst (Gained ys) (sym (ap (λ l. l ++ b) h)) k

@@ -12,9 +12,9 @@ use Rattle.ld_history.specs.declared.event.Event.TheVariants as event
 use Rattle.ld_history.specs.declared.event.Given.{Given}
 use Rattle.ld_history.specs.declared.event.Entry.{Entry}
 use Rattle.ld_history.proofs.LawAlong.{replay-append}
-use Rattle.ld_fits.specs.Adding.{Adds}
-use Rattle.ld_fits.specs.Own.{Placed, placed, own_placed, own_placed_from}
-use Rattle.ld_fits.proofs.Growing.{grown}
+use Rattle.ld_own.specs.Adding.{Adds}
+use Rattle.ld_own.specs.Own.{Placed, placed, own_placed, own_placed_from}
+use Rattle.ld_own.proofs.Growing.{grown}
 
 pub adds_none : (session : ℕ) (front : Entries) → Adds session front [] front
 adds_none session front = record { since = []; is = append-nil front; own = refl }

@@ -7,7 +7,7 @@ use Rattle.ld_history.specs.declared.event.Event.TheVariants as event
 use Rattle.ld_history.specs.declared.event.Given.{Given}
 use Rattle.ld_history.specs.declared.session.Flight.{Flight}
 use Rattle.ld_history.specs.Words.{flight_at}
-use Rattle.ld_fits.specs.Own.{Placed}
+use Rattle.ld_own.specs.Own.{Placed}
 
 -- the answer was given for this flight
 pub record IsFor (p : Placed) (flight : ℕ) (given : loader.Given) : Type 0 where
