@@ -115,8 +115,12 @@ IsAccepted op bytes envelope = (tree : Tree) × reads bytes tree × (fault_of op
 abbrev pub IsUnread : List ℕ → ReadRefusal → Type 0
 IsUnread bytes e = (first_refusal bytes ≡ Some e) × ((tree : Tree) → reads bytes tree → ⊥)
 
--- why the bytes are no envelope; want of memory has no cause
+-- Why the bytes are refused: they are no JSON text, or this is the text's fault. Want of memory has no cause.
+abbrev pub IsRefusedBy : (fault : Tree → Option EnvelopeRefusal) → List ℕ → EnvelopeRefusal → Type 0
+IsRefusedBy fault bytes (refusal.Json e) = IsUnread bytes e
+IsRefusedBy fault bytes refusal.NoMemory = Unit {0}
+IsRefusedBy fault bytes e = (tree : Tree) × reads bytes tree × (fault tree ≡ Some e)
+
+-- why the bytes are no envelope
 abbrev pub IsRefused : Op → List ℕ → EnvelopeRefusal → Type 0
-IsRefused op bytes (refusal.Json e) = IsUnread bytes e
-IsRefused op bytes refusal.NoMemory = Unit {0}
-IsRefused op bytes e = (tree : Tree) × reads bytes tree × (fault_of op tree ≡ Some e)
+IsRefused op bytes e = IsRefusedBy (fault_of op) bytes e

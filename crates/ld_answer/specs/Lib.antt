@@ -1,4 +1,5 @@
 pub mod Envelopes
+pub mod Targets
 pub mod Readings
 pub mod Answers
 pub mod Bodies

@@ -2,10 +2,10 @@ ghost use Rattle.std.specs.Prelude.{◌≡◌, ℕ, List, Option, Some, None, tr
 ghost use Rattle.ld_tree.specs.Maps.{find as value_at};
 ghost use Rattle.ld_tree.specs.declared.tree.Tree.{Tree, out-Tree};
 ghost use Rattle.ld_rec.specs.Words.{text_of, is_among};
-ghost use Rattle.ld_answer.specs.Envelopes.{IsAccepted, IsRefused, IsUnread, IsEnvelopeOf, bool_of, context_for, entries_fault, fields, first_name, has_required, is_of_wrong_kind, is_unknown, is_base_in, is_of_kind, or_true};
+ghost use Rattle.ld_answer.specs.Envelopes.{IsAccepted, IsRefused, IsRefusedBy, IsUnread, IsEnvelopeOf, bool_of, context_for, entries_fault, fields, first_name, has_required, is_of_wrong_kind, is_unknown, is_base_in, is_of_kind, or_true};
 ghost use Rattle.ld_tree_read.specs.Steps.{Known};
 ghost use Rattle.ld_answer.specs.Readings.{IsFault};
-ghost use Rattle.ld_answer.specs.declared.op.Op.{Op};
+ghost use Rattle.ld_answer.specs.declared.refusal.EnvelopeRefusal.{EnvelopeRefusal};
 
 use crate::envelope::Envelope;
 use crate::op::Op;
@@ -33,8 +33,8 @@ pub fn read_envelope(alloc: Global, op: Op, bytes: &[u8]) -> Result<Envelope, En
 }
 
 // Want of memory is an answer of its own.
-fn unread(e: ReadRefusal) -> EnvelopeRefusal
-    ensures { (op : Op) (bytes : List ℕ) → Known e (IsUnread bytes e) → IsRefused op bytes result }
+pub(crate) fn unread(e: ReadRefusal) -> EnvelopeRefusal
+    ensures { (fault : Tree → Option EnvelopeRefusal) (bytes : List ℕ) → Known e (IsUnread bytes e) → IsRefusedBy fault bytes result }
 {
     match e {
         ReadRefusal::NoMemory => EnvelopeRefusal::NoMemory,

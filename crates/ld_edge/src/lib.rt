@@ -6,9 +6,9 @@
 //! their bytes, and fail at the calls that they are told. [`StdSource`] and [`StdSink`] stand over files,
 //! pipes and streams, and tell no bytes.
 //!
-//! To be believed: `specs/Sides.antt` (what is told of a side), `specs/Faults.antt` (counts of failures) and
-//! `specs/Status.antt` (the numbers of the exit status). The rest of `specs/` is how the objects here are
-//! seen: over memory, and over a reader or writer.
+//! To be believed: `specs/Sides.antt` (what is told of a side), `specs/Passing.antt` (what passes through an
+//! object), `specs/Faults.antt` (counts of failures) and `specs/Status.antt` (the numbers of the exit status).
+//! The rest of `specs/` is how the objects here are seen: over memory, and over a reader or writer.
 #![tactic(auto)]
 
 mod counted;
@@ -26,6 +26,7 @@ mod status;
 mod std_sink;
 mod std_source;
 mod stream_link;
+mod writing;
 
 pub use door::Door;
 pub use faults::FaultCount;
@@ -40,3 +41,4 @@ pub use status::Status;
 pub use std_sink::StdSink;
 pub use std_source::StdSource;
 pub use stream_link::StreamLink;
+pub use writing::write_all;

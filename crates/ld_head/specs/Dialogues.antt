@@ -9,7 +9,7 @@ use Rattle.ld_head.specs.declared.finding.Place.TheVariants.{Before, BeforeCr, W
 use Rattle.ld_head.specs.declared.head.Head.{Head}
 use Rattle.ld_head.specs.declared.path.Path.{Path}
 use Rattle.ld_head.specs.Heads.{Verdict, Accepts, Refuses, Says}
-use Rattle.ld_head.specs.Paths.{served_path}
+use Rattle.ld_head.specs.Paths.{path_of}
 
 -- ---- where a head ends
 
@@ -61,7 +61,7 @@ asked_at None method body = Bad 404
 asked_at (Some path) method body = if bytes_eq method (codes "POST") then Ask path body else Bad 405
 
 abbrev pub asked : Head → List ℕ → Item
-asked h body = asked_at (served_path h.path) h.method body
+asked h body = asked_at (path_of h.path) h.method body
 
 -- of item n of the connection, counted from 0; the 65,536th closes
 abbrev pub marks_of : ℕ → Head → Marks
@@ -89,6 +89,11 @@ ends_at _ = Inside false
 
 abbrev pub silence : Ending → Dialogue
 silence ending = record { items = []; ending = ending }
+
+-- the interim text is due where the input ends so
+abbrev pub is_due_at : Ending → Bool
+is_due_at (Inside interim) = interim
+is_due_at _ = false
 
 abbrev pub before : Marked → Dialogue → Dialogue
 before item d = record { items = item ∷ d.items; ending = d.ending }

@@ -1,6 +1,6 @@
 //! A head that comes in pieces: each byte is searched once.
-ghost use Rattle.std.specs.Prelude.{◌≡◌, ℕ, []};
-ghost use Rattle.ld_head.specs.Dialogues.{Opens, Stops, ends_at};
+ghost use Rattle.std.specs.Prelude.{◌≡◌, ℕ, [], false};
+ghost use Rattle.ld_head.specs.Dialogues.{Opens, Stops, ends_at, is_due_at};
 ghost use Rattle.ld_head.specs.Pieces.{Comes};
 
 use crate::begun::Begun;
@@ -56,9 +56,10 @@ impl Begun {
         }
     }
 
-    /// How the input ends, where it ends here.
+    /// How the input ends, where it ends here. No interim text is due then.
     pub fn ending(&self) -> Ending
-        ensures { (n : ℕ) → Opens n self.now (Stops result) }
+        ensures opens { (n : ℕ) → Opens n self.now (Stops result) }
+        ensures not_due { is_due_at result ≡ false }
     {
         self.place.ending()
     }
@@ -66,7 +67,8 @@ impl Begun {
 
 impl Place {
     pub(crate) fn ending(self) -> Ending
-        ensures { result ≡ ends_at self }
+        ensures ending { result ≡ ends_at self }
+        ensures not_due { is_due_at result ≡ false }
     {
         match self {
             Place::Before => Ending::Between,

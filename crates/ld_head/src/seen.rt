@@ -37,7 +37,7 @@ impl<'s> Seen<'s> {
     pub(crate) fn item<'b>(self, body: &'b [u8]) -> Item<'b>
         ensures { item_of result ≡ asked (head_of self.entry) body.now }
     {
-        match Path::served(self.path) {
+        match Path::from_target(self.path) {
             None => Item::Bad { status: 404 },
             Some(path) if self.method == "POST" => Item::Ask { path, body },
             Some(_) => Item::Bad { status: 405 },

@@ -70,7 +70,7 @@ fn the_first_check_that_fails_decides(rt: HostRuntime) -> Result<(), Fail> {
 }
 
 // A request, the status of its item (200 where it asks), and whether the interim text is due, it closes and it is a HEAD.
-const REQUESTS: [(&str, u16, (bool, bool, bool)); 33] = [
+const REQUESTS: [(&str, u16, (bool, bool, bool)); 35] = [
     // the host
     ("GET /expand HTTP/1.1\n\n", 400, (false, true, false)),
     (
@@ -124,13 +124,23 @@ const REQUESTS: [(&str, u16, (bool, bool, bool)); 33] = [
     ),
     (
         "GET /revise HTTP/1.1\nHost: h\n\n",
+        405,
+        (false, false, false),
+    ),
+    (
+        "POST /evict/ HTTP/1.1\nHost: h\nContent-Length: 0\n\n",
         404,
         (false, false, false),
     ),
     (
-        "GET /evict HTTP/1.1\nHost: h\n\n",
-        404,
+        "POST /revise HTTP/1.1\nHost: h\nContent-Length: 20\n\n{\"iri\":\"http://c/x\"}",
+        200,
         (false, false, false),
+    ),
+    (
+        "POST /evict HTTP/1.0\nContent-Length: 20\n\n{\"iri\":\"http://c/x\"}",
+        200,
+        (false, true, false),
     ),
     (
         "\r\n\nPOST /flatten HTTP/1.1\r\nHost: h\r\nContent-Length: 0\r\n\r\n",

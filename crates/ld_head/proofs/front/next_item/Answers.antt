@@ -6,7 +6,7 @@ use Rattle.ld_head.proofs.front.next_item.Goals as goal
 
 pub returns-in-Goes : goal.returns-in-Goes
 returns-in-Goes c =
-    subst (λ e. Opens c.args.n c.args.bytes.now (Stops e)) (sym c.ending.ensures)
+    subst (λ e. Opens c.args.n c.args.bytes.now (Stops e)) (sym c.ending.ensures.ending)
     (stops_in c.args.bytes.now c.args.n c.in-Goes.place (omega (arith, c.in-Goes.ensures.in_bounds)) (c.in-Goes.ensures.finds _ refl))
 
 pub returns-in-Full : goal.returns-in-Full

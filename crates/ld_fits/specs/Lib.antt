@@ -1,0 +1,5 @@
+pub mod Asks
+pub mod Play
+pub mod Fits
+pub mod Leading
+pub mod Examples

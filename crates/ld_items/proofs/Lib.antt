@@ -1,0 +1,3 @@
+pub mod Arriving
+pub mod Saying
+pub mod Taken

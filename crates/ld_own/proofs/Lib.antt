@@ -1,0 +1,5 @@
+pub mod Adding
+pub mod Closing
+pub mod Growing
+pub mod Keeping
+pub mod Loads
