@@ -1,6 +1,6 @@
 -- The steps of the history lead a session on: what they append is what its stage waits for.
-use Rattle.std.proofs.Common.{◌≡◌, ◌∙◌, ℕ, ◌+◌, Bool, true, false, not, ◌&&◌, ◌||◌, List, [], ◌∷◌, ◌++◌, length, refl, sym, ap, subst, eq-eqb}
-use Rattle.std.specs.Prelude.{Option, Some, None, Err, Result, is_some, if◌then◌else◌, ◌==◌, nat_lt, nat_eq}
+use Rattle.std.proofs.Common.{◌≡◌, ◌∙◌, ℕ, ◌+◌, Bool, true, false, not, ◌&&◌, ◌||◌, List, [], ◌∷◌, ◌++◌, length, refl, ap, subst, eq-eqb}
+use Rattle.std.specs.Prelude.{Option, Some, None, Err, is_some, if◌then◌else◌, ◌==◌, nat_lt}
 use Rattle.std.specs.List.{find, fold, list_any}
 use Rattle.std.specs.Map.{values_of}
 use Rattle.std.specs.Option.{option_map}
@@ -35,12 +35,10 @@ use Rattle.ld_history.specs.declared.session.Session.{Session}
 use Rattle.ld_history.proofs.LawSound.{sound}
 use Rattle.ld_history.proofs.LawTold.{by_turns}
 use Rattle.ld_rec.specs.Outcome.{Stock}
-use Rattle.ld_rec.specs.declared.stop.Stop.{Stop}
 use Rattle.ld_rec.specs.declared.stop.Stop.TheVariants as stop
-use Rattle.ld_tree.specs.declared.tree.Tree.{Tree}
 use Rattle.ld_fits.specs.Leading.{after_evict, after_lack, after_revise}
 use Rattle.ld_own.specs.Own.{Placed, placed, own_placed_from}
-use Rattle.ld_fits.specs.Play.{Evicting, Gone, Lacking, Pinned, Placing, Reloading, Request, Revising, Stage, Wrong, has_no_place, lacks, led_if, play, replied, revises, step}
+use Rattle.ld_fits.specs.Play.{Evicting, Gone, Lacking, Pinned, Reloading, Request, Revising, Stage, Wrong, has_no_place, lacks, led_if, play, replied, revises, step}
 use Rattle.ld_own.proofs.Adding.{one_own}
 
 same_number : (n : ℕ) → (n == n) ≡ true

@@ -1,6 +1,5 @@
 -- Short histories, as examples.
-use Rattle.std.specs.Prelude.{ℕ, List, [], ◌∷◌, None}
-use Rattle.ld_history.specs.declared.event.Event.{Event}
+use Rattle.std.specs.Prelude.{[], ◌∷◌}
 use Rattle.ld_history.specs.declared.event.Event.TheVariants as event
 use Rattle.ld_history.specs.declared.event.How.TheVariants as how
 use Rattle.ld_history.specs.Legal.{Entries}

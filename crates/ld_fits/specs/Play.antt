@@ -1,6 +1,6 @@
 -- Where each of a session's own entries leads: which entry may come next in answer to its items, and what text is due by
 -- then. An evaluation is answered as the algorithms say over the stock of the version that it pinned last.
-use Rattle.std.specs.Prelude.{◌≡◌, ℕ, ◌+◌, ◌==◌, nat_lt, Bool, true, false, not, ◌&&◌, List, [], ◌∷◌, ◌++◌, length, Option, Some, None, Result, Ok, Err, if◌then◌else◌}
+use Rattle.std.specs.Prelude.{ℕ, ◌==◌, nat_lt, Bool, true, false, not, ◌&&◌, List, [], ◌∷◌, ◌++◌, length, Option, Some, None, Result, Ok, Err, if◌then◌else◌}
 use Rattle.ld_answer.specs.Answers.{answered}
 use Rattle.ld_answer.specs.Bodies.{code_body, own_body, too_many_body, load_fault_body}
 use Rattle.ld_answer.specs.declared.envelope.Envelope.{Envelope}

@@ -55,7 +55,7 @@ pub fn steps_lead()
 
 /// A history that fits still does once it has grown by entries of other sessions, whatever versions they make.
 pub fn fits_stay()
-    ensures stay { (limits : Limits) (n : ℕ) (stock later : ℕ → Stock) (entries more : Entries) (session : ℕ) (items : List Marked) (written : List ℕ)
+    ensures { (limits : Limits) (n : ℕ) (stock later : ℕ → Stock) (entries more : Entries) (session : ℕ) (items : List Marked) (written : List ℕ)
         → PinWithin n (own_placed session entries) → AgreeUpTo n stock later → own_from (state entries) session more ≡ []
         → Fits limits stock entries session items written → Fits limits later (entries ++ more) session items written }
 {}

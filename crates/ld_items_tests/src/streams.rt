@@ -1,5 +1,7 @@
 //! Streams of requests over memory: what comes of each, and what is written before it.
 
+ghost use Rattle.std.specs.Prelude.{◌≤◌};
+
 use ld_edge::{MemLink, MemSink, MemSource};
 use ld_head::Ending;
 use ld_items::{Arrivals, Next, Received};

@@ -1,10 +1,10 @@
 -- A session's entries, from one front to the next.
-use Rattle.std.proofs.Common.{◌≡◌, ◌≢◌, ◌∙◌, ℕ, ◌+◌, ◌<◌, ◌≤◌, Bool, true, false, List, [], ◌∷◌, ◌++◌, length, take, slice_get, refl, sym, ap, subst, append_assoc, append-nil, arith, eqb-true, length-append}
-use Rattle.std.specs.Prelude.{Option, Some, None, if◌then◌else◌, ◌==◌}
+use Rattle.std.proofs.Common.{◌≡◌, ◌≢◌, ◌∙◌, ℕ, ◌<◌, ◌≤◌, Bool, true, false, List, [], ◌∷◌, ◌++◌, length, take, slice_get, refl, sym, ap, subst, append_assoc, append-nil, arith, eqb-true, length-append}
+use Rattle.std.specs.Prelude.{Option, Some, if◌then◌else◌, ◌==◌}
 use mathlib.Core.List.{IsPrefix}
 use Rattle.ld_history.specs.After.{after}
 use Rattle.ld_history.specs.Counts.{owner}
-use Rattle.ld_history.specs.Legal.{Entries, replay, state}
+use Rattle.ld_history.specs.Legal.{Entries, state}
 use Rattle.ld_history.specs.Seats.{opened_in, seat_found, seat_in, seat_of, seat_or}
 use Rattle.ld_history.specs.Store.{Store, empty_store}
 use Rattle.ld_history.specs.declared.event.Event.{Event}

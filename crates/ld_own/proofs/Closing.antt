@@ -1,11 +1,11 @@
 -- A session that was closed has no more entries, and pins no version above the current one.
-use Rattle.std.proofs.Common.{◌≡◌, ◌∙◌, ◌⊎◌, inl, inr, ℕ, ◌+◌, ◌<◌, ◌≤◌, Bool, true, false, List, [], ◌∷◌, ◌++◌, refl, sym, ap, subst, arith, eqb-true, nat_cmp}
+use Rattle.std.proofs.Common.{◌≡◌, ◌∙◌, ◌⊎◌, inl, inr, ℕ, ◌+◌, ◌≤◌, Bool, true, false, List, [], ◌∷◌, ◌++◌, refl, sym, ap, subst, arith, eqb-true, nat_cmp}
 use Rattle.std.specs.Prelude.{Option, Some, None, if◌then◌else◌, ◌==◌}
 use Rattle.std.specs.Ordering.{is_eq}
 use Rattle.std.specs.Map.{set_value}
 use Rattle.std.specs.BTreeMap.{is_at}
-use Rattle.ld_history.specs.After.{after, after_event, after_published, put_number, take_number, with_flight}
-use Rattle.ld_history.specs.ByTurns.{allows, allows_given, LegalFrom}
+use Rattle.ld_history.specs.After.{after, after_event, with_flight}
+use Rattle.ld_history.specs.ByTurns.{allows, LegalFrom}
 use Rattle.ld_history.specs.Counts.{owner}
 use Rattle.ld_history.specs.Legal.{Entries, Legal, state}
 use Rattle.ld_history.specs.Store.{Store, empty_store}
@@ -15,14 +15,13 @@ use Rattle.ld_history.specs.declared.event.Event.TheVariants as event
 use Rattle.ld_history.specs.declared.event.Entry.{Entry}
 use Rattle.ld_history.specs.declared.event.Given.{Given}
 use Rattle.ld_history.specs.declared.limits.Limits.{Limits}
-use Rattle.ld_history.specs.declared.session.End.{End}
 use Rattle.ld_history.specs.declared.session.Flight.{Flight}
 use Rattle.ld_history.specs.declared.session.Session.{Session}
 use Rattle.ld_history.proofs.LawAlong.{legal-append}
 use Rattle.ld_history.proofs.LawCrew.{set_number_other}
 use Rattle.ld_history.proofs.LawFlights.{number_cases, put_number_other, take_number_other}
 use Rattle.ld_history.proofs.LawMoved.{Moved}
-use Rattle.ld_history.proofs.LawReads.{read_close, read_open, read_pin}
+use Rattle.ld_history.proofs.LawReads.{read_close, read_open}
 use Rattle.ld_history.proofs.LawSound.{Sound, sound, sound-after}
 use Rattle.ld_history.proofs.LawTold.{by_turns}
 use Rattle.ld_history.proofs.LawTracked.{is_inside, moved}

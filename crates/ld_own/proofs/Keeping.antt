@@ -22,7 +22,6 @@ use Rattle.ld_history.specs.declared.session.Session.{Session}
 use Rattle.ld_history.proofs.LawAlong.{legal-append, replay-append}
 use Rattle.ld_history.proofs.LawCrew.{set_number_other}
 use Rattle.ld_history.proofs.LawFlights.{flight_kept, flight_more, number_cases, put_number_other, take_number_other}
-use Rattle.ld_history.proofs.LawMoved.{Moved}
 use Rattle.ld_history.proofs.LawSound.{Sound, sound, sound-after}
 use Rattle.ld_history.proofs.LawTold.{by_turns}
 use Rattle.ld_history.proofs.LawTracked.{is_inside, moved}
@@ -68,6 +67,7 @@ module _ (session number : ℕ) (f : Flight) (led : f.session ≡ session) where
       go : (o : Option Flight) → flight_at store.flights m ≡ o → (unwrap_or (option_map (λ (g : Flight). g.session) o) 0 ≡ session → ⊥) → flight_at (with_flight store change o).flights number ≡ Some f
       go None at other = is
       go (Some g) at other = landed_on store m how (change g).flights (Some g) at other is (number_cases number m) (λ none. absurd (some_none g none)) (λ h same. ends g)
+
   flight_on : (store : Store) (given : Option Given) (e : Event (List ℕ)) → (owner store e ≡ session → ⊥) → flight_at store.flights number ≡ Some f → flight_at (after_event store given e).flights number ≡ Some f
   flight_on store given (event.Opened s k) other is = is
   flight_on store given (event.Pinned s r t v) other is = is

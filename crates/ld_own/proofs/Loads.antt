@@ -1,5 +1,5 @@
 -- Loads one after another.
-use Rattle.std.proofs.Common.{◌≡◌, ◌∙◌, ℕ, ◌≤◌, List, [], ◌∷◌, ◌++◌, sym, ap, subst, append_assoc, arith}
+use Rattle.std.proofs.Common.{◌∙◌, ℕ, ◌≤◌, List, [], ◌∷◌, ◌++◌, sym, ap, subst, append_assoc, arith}
 use Rattle.ld_flight.specs.declared.given.Given as loader
 use Rattle.ld_history.specs.declared.event.Event.{Event}
 use Rattle.ld_history.specs.declared.event.Event.TheVariants as event

@@ -1,4 +1,4 @@
-use Rattle.std.proofs.Common.{◌++◌, refl}
+use Rattle.std.proofs.Common.{refl}
 use Rattle.ld_own.proofs.Adding.{adds_none, adds_own, adds_trans, quiet_adds}
 use Rattle.ld_own.proofs.Closing.{gone_stays}
 use Rattle.ld_own.proofs.laws.additions_add_up.Goals as goal
