@@ -58,7 +58,10 @@ fn lack(rt: &impl Abort, alloc: Global, book: &mut Book, session: u32, context: 
         .name(alloc, iri(rt, alloc, context))
         .expect(rt, "memory");
     assert!(rt; book.history().may_lack(session, &name));
-    match book.lack(alloc, session, name.as_iri()).expect(rt, "memory") {
+    match book
+        .lack(alloc, session, name.as_iri())
+        .expect(rt, "memory")
+    {
         LackAnswer::Lead(pass) => land(rt, alloc, book, pass),
         LackAnswer::TooMany { .. }
         | LackAnswer::There

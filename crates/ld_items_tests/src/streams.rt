@@ -61,7 +61,7 @@ fn short(alloc: Global, next: &Next) -> Result<String, Fail> {
 fn told(alloc: Global, link: &mut MemLink) -> Result<String, Fail> {
     let mut arrivals = Arrivals::new(alloc)?;
     let mut told = String::new(alloc);
-    for _ in 0..4 {
+    for _ in 0..4_u32 {
         let next = arrivals.next(alloc, link);
         told.push_str(short(alloc, &next)?.as_str())?;
         match next {

@@ -43,7 +43,7 @@ pub fn run_once<S: Source, K: Sink, L: Loader>(
     ensures foreseen { (bytes out : List ℕ) (due : Status) (after : Loading) → IsTelling (L.loading loader.old) → (S.incoming input.old).left ≡ Some bytes
         → Due (map string_bytes words.now) bytes (L.loading loader.old) after due out → (due ≡ ended.LoadFault → ⊥)
         → IsUnlessLoadFailed due result (S.incoming input.old) (S.incoming input.new) (K.outgoing output.old) (K.outgoing output.new)
-            (L.loading loader.old) (L.loading loader.new) }
+        (L.loading loader.old) (L.loading loader.new) }
 
     // A soak reads and loads nothing, and ends with its line, unless a write failed or memory was wanting.
     ensures soak { (count : ℕ) → IsSoakOf (map string_bytes words.now) count

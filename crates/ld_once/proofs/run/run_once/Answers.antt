@@ -7,5 +7,5 @@ returns g c = record {
   ended = c.run.ensures;
   exact = Ended-exact _ _ _ _ _ _ _ _ c.run.ensures;
   foreseen = Ended-foreseen _ _ _ _ _ _ _ _ c.run.ensures;
-  soak = Ended-soak _ _ _ _ _ _ _ _ c.run.ensures
+  soak = Ended-soak _ _ _ _ _ _ _ _ c.run.ensures;
 }
