@@ -1,11 +1,11 @@
 //! The requests of one session in one book.
+ghost use Rattle.std.specs.Prelude.{◌≡◌, true, OnOk};
 
-use ld_book::{Book, LackAnswer};
+use ld_book::{Book, LackAnswer, RoomRefusal};
 use ld_flight::{LONGEST_TEXT, Loaded, Pass, Ready};
-use ld_history::Limits;
-use ld_tree::{Iri, Items, Text};
-use std::alloc::Global;
-use std::process::Abort;
+use ld_history::{Limits, Name};
+use ld_tree::{Iri, Items, NoMemory, Raw, Text, Url};
+use std::alloc::{AllocError, Global};
 
 const CONTEXTS: u64 = 512;
 
@@ -20,86 +20,148 @@ pub enum Wanted {
     Contexts,
 }
 
+/// Why no more requests were made.
+#[derive(Clone, Copy)]
+pub enum Stopped {
+    /// A step wasn't allowed, or answered otherwise than it should.
+    NotAllowed,
+    /// The history has no room left.
+    Full,
+    NoMemory,
+}
+
+impl From<NoMemory> for Stopped {
+    fn from(_: NoMemory) -> Stopped {
+        Stopped::NoMemory
+    }
+}
+
+impl From<AllocError> for Stopped {
+    fn from(_: AllocError) -> Stopped {
+        Stopped::NoMemory
+    }
+}
+
+impl From<RoomRefusal> for Stopped {
+    fn from(refusal: RoomRefusal) -> Stopped {
+        match refusal {
+            RoomRefusal::HistoryFull { .. } => Stopped::Full,
+            RoomRefusal::NoMemory => Stopped::NoMemory,
+        }
+    }
+}
+
 /// A book, under the server's limits, in which one session made so many requests.
-pub fn drive(rt: &impl Abort, alloc: Global, requests: u64, wanted: Wanted) -> Book {
-    let mut book = Book::new(alloc, Limits::server()).expect(rt, "memory");
-    assert!(rt; book.history().may_open(0));
-    let session = book.open_session(alloc, 0).expect(rt, "room");
+pub fn drive(alloc: Global, requests: u64, wanted: Wanted) -> Result<Book, Stopped> {
+    let mut book = Book::new(alloc, Limits::server())?;
+    allowed(book.history().may_open(0))?;
+    let session = book.open_session(alloc, 0)?;
     for request in 0..requests {
-        pin(rt, alloc, &mut book, session);
+        pin(alloc, &mut book, session)?;
         match wanted {
             Wanted::Nothing => {}
             Wanted::Contexts => {
-                // Each context is wanted again when it went out by then.
-                lack(rt, alloc, &mut book, session, request % CONTEXTS);
-                pin(rt, alloc, &mut book, session);
+                // Each context went out by the time that it is wanted again.
+                lack(alloc, &mut book, session, request % CONTEXTS)?;
+                pin(alloc, &mut book, session)?;
             }
         }
-        answer(rt, &mut book, session);
+        answer(&mut book, session)?;
     }
-    book
+    Ok(book)
 }
 
-fn pin(rt: &impl Abort, alloc: Global, book: &mut Book, session: u32) {
-    assert!(rt; book.history().may_pin(session));
-    let _pin = book.pin(alloc, session).expect(rt, "room");
+fn allowed(step: bool) -> Result<(), Stopped>
+    ensures { OnOk result (step ≡ true) }
+{
+    if step {
+        Ok(())
+    } else {
+        Err(Stopped::NotAllowed)
+    }
 }
 
-fn answer(rt: &impl Abort, book: &mut Book, session: u32) {
-    let how = book.history().outcome(session).expect(rt, "an outcome");
-    assert!(rt; book.history().may_answer(session, &how));
+fn pin(alloc: Global, book: &mut Book, session: u32) -> Result<(), Stopped> {
+    allowed(book.history().may_pin(session))?;
+    let _pin = book.pin(alloc, session)?;
+    Ok(())
+}
+
+fn answer(book: &mut Book, session: u32) -> Result<(), Stopped> {
+    let Some(how) = book.history().outcome(session) else {
+        return Err(Stopped::NotAllowed);
+    };
+    allowed(book.history().may_answer(session, &how))?;
     book.answered(session, how);
+    Ok(())
 }
 
 /// Leads a flight for the context, whose answer comes into the store.
-fn lack(rt: &impl Abort, alloc: Global, book: &mut Book, session: u32, context: u64) {
-    let name = book
-        .history()
-        .name(alloc, iri(rt, alloc, context))
-        .expect(rt, "memory");
-    assert!(rt; book.history().may_lack(session, &name));
-    match book
-        .lack(alloc, session, name.as_iri())
-        .expect(rt, "memory")
-    {
-        LackAnswer::Lead(pass) => land(rt, alloc, book, pass),
-        LackAnswer::TooMany { .. }
-        | LackAnswer::There
-        | LackAnswer::Joined(_)
-        | LackAnswer::StoreFull
-        | LackAnswer::ArchiveFull { .. } => panic!(rt; "no flight"),
+fn lack(alloc: Global, book: &mut Book, session: u32, context: u64) -> Result<(), Stopped> {
+    let name: Name = book.history().name(alloc, iri(alloc, context)?)?;
+    allowed(book.history().may_lack(session, &name))?;
+    let answer = book.lack(alloc, session, name.as_iri())?;
+    match answer {
+        LackAnswer::Lead(pass) => land(alloc, book, pass),
+        LackAnswer::TooMany { held: _ } => Err(Stopped::NotAllowed),
+        LackAnswer::There => Err(Stopped::NotAllowed),
+        LackAnswer::Joined(_) => Err(Stopped::NotAllowed),
+        LackAnswer::StoreFull => Err(Stopped::NotAllowed),
+        LackAnswer::ArchiveFull { bytes: _ } => Err(Stopped::NotAllowed),
     }
 }
 
-fn land(rt: &impl Abort, alloc: Global, book: &mut Book, pass: Pass) {
-    let ready = load(rt, alloc, pass);
+fn land(alloc: Global, book: &mut Book, pass: Pass) -> Result<(), Stopped> {
+    let ready = load(alloc, pass)?;
     let flight = ready.pass().flight();
-    assert!(rt; book.history().may_lapse(flight));
     let same = match book.history().flight_iri(flight) {
         Some(iri) => *iri.as_iri() == *ready.pass().iri(),
         None => false,
     };
-    assert!(rt; same);
-    if let Err((ready, _)) = book.publish(alloc, ready) {
+    if !same || !book.history().may_lapse(flight) {
         ready.into_pass().end();
-        panic!(rt; "memory")
+        return Err(Stopped::NotAllowed);
     }
-}
-
-fn load(rt: &impl Abort, alloc: Global, pass: Pass) -> Ready {
-    let url = pass.iri().try_copy(alloc).expect(rt, "memory");
-    let text = Items::from_vec(Vec::from_slice(alloc, TEXT).expect(rt, "memory"));
-    assert!(rt; text.as_slice().len() <= LONGEST_TEXT);
-    match (Loaded { pass, url, text }).ready(alloc) {
-        Ok(ready) => ready,
-        Err((loaded, _)) => {
-            loaded.pass.end();
-            panic!(rt; "memory")
+    match book.publish(alloc, ready) {
+        Ok(_) => Ok(()),
+        Err((ready, _)) => {
+            ready.into_pass().end();
+            Err(Stopped::NoMemory)
         }
     }
 }
 
-fn iri(rt: &impl Abort, alloc: Global, context: u64) -> Iri {
-    let text = format!(in alloc; "http://contexts.example/{context}").expect(rt, "memory");
-    Text::from_str(alloc, text.as_str()).expect(rt, "memory")
+/// Loads the one text, as if from the place of the IRI.
+fn load(alloc: Global, pass: Pass) -> Result<Ready, Stopped> {
+    match fetched(alloc, &pass) {
+        Ok((url, text)) if text.as_slice().len() <= LONGEST_TEXT => {
+            match (Loaded { pass, url, text }).ready(alloc) {
+                Ok(ready) => Ok(ready),
+                Err((loaded, _)) => {
+                    let Loaded {
+                        pass,
+                        url: _,
+                        text: _,
+                    } = loaded;
+                    pass.end();
+                    Err(Stopped::NoMemory)
+                }
+            }
+        }
+        _ => {
+            pass.end();
+            Err(Stopped::NoMemory)
+        }
+    }
+}
+
+fn fetched(alloc: Global, pass: &Pass) -> Result<(Url, Raw), NoMemory> {
+    let url = pass.iri().try_copy(alloc)?;
+    let text = Vec::from_slice(alloc, TEXT)?;
+    Ok((url, Items::from_vec(text)))
+}
+
+fn iri(alloc: Global, context: u64) -> Result<Iri, NoMemory> {
+    let text = format!(in alloc; "http://contexts.example/{context}")?;
+    Text::from_str(alloc, text.as_str())
 }

@@ -4,7 +4,7 @@
 
 mod drive;
 
-use drive::{Wanted, drive};
+use drive::{Stopped, Wanted, drive};
 use std::env::Env;
 use std::process::ExitCode;
 use std::{env, io};
@@ -26,7 +26,22 @@ fn main(rt: HostRuntime) -> io::Result<ExitCode> {
         println!(rt; "usage: ld_book_bench <requests> [contexts]")?;
         return Ok(ExitCode::from(2));
     };
-    let book = drive(&rt, rt.alloc(), requests, wanted);
-    println!(rt; "version {} events {}", book.version(), book.events())?;
-    Ok(ExitCode::SUCCESS)
+    match drive(rt.alloc(), requests, wanted) {
+        Ok(book) => {
+            println!(rt; "version {} events {}", book.version(), book.events())?;
+            Ok(ExitCode::SUCCESS)
+        }
+        Err(Stopped::NotAllowed) => {
+            println!(rt; "not allowed")?;
+            Ok(ExitCode::from(1))
+        }
+        Err(Stopped::Full) => {
+            println!(rt; "the history is full")?;
+            Ok(ExitCode::from(1))
+        }
+        Err(Stopped::NoMemory) => {
+            println!(rt; "no memory")?;
+            Ok(ExitCode::from(7))
+        }
+    }
 }
