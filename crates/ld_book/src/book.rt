@@ -60,6 +60,7 @@ impl Book {
     /// is that of the answer which the entry tells.
     pub fn events(&self) -> u64
         ensures count { result ≡ length self.now.pages }
+        ensures within { AreWithin self.now.limits }
         ensures legal { Legal self.now.limits (entries_of self.now.pages) }
         ensures documents { ArePages self.now.pages }
     {

@@ -36,4 +36,4 @@ pub use answers::{
 pub use bell::Bell;
 pub use book::Book;
 pub use hall::{Blank, Hall, Seats};
-pub use page::Page;
+pub use page::{Line, Page};

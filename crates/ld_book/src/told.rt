@@ -1,15 +1,15 @@
 //! The book behind a turn lock.
 use crate::book::Book;
-use crate::page::Page;
+use crate::page::Line;
 use ld_turn::Told;
 
 /// A page belongs to the seat of the session that its entry belongs to.
 impl Told for Book {
-    ghost use Rattle.ld_book.specs.Seats.{seat_of, stays};
+    ghost use Rattle.ld_book.specs.Seats.{lines_of, seat_of, stays};
 
-    type Entry = Page;
+    type Entry = Line;
 
-    ghost list = { λ b. b.pages };
+    ghost list = { lines_of };
 
     ghost seat_of = { seat_of };
 
