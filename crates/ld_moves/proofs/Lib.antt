@@ -1,0 +1,3 @@
+pub mod Staying
+pub mod Snapshots
+pub mod Joining

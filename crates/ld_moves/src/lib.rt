@@ -1,0 +1,7 @@
+//! What a session has moved between two places in a book, over several turns at it. There is no code here: the crate is
+//! definitions, and laws.
+#![tactic(auto)]
+
+mod laws;
+
+pub use laws::{moves_add_up, stocks_stay};
