@@ -1,3 +1,5 @@
 pub mod Staying
 pub mod Snapshots
 pub mod Joining
+pub mod Keeping
+pub mod Taking

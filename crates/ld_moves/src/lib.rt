@@ -4,4 +4,4 @@
 
 mod laws;
 
-pub use laws::{moves_add_up, stocks_stay};
+pub use laws::{facts_are_kept, moves_add_up, stocks_stay};
