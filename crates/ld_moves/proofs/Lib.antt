@@ -3,3 +3,4 @@ pub mod Snapshots
 pub mod Joining
 pub mod Keeping
 pub mod Taking
+pub mod Stepping

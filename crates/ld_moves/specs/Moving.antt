@@ -48,3 +48,7 @@ pub record Finds (session : ℕ) (limits : Limits) (front : Pages) (found : Book
   pub grows : IsPrefix front found.pages
   pub quiet : Adds session (entries_of front) [] (entries_of found.pages)
   pub sound : IsSound limits found.pages
+
+-- at its turn the session is moved from one stage to another, whatever its loader gave and failed before
+abbrev pub MovesOn : ℕ → Limits → Pages → Pages → Stage → Stage → Type 0
+MovesOn session limits front later from to = (given : List loader.Given) (faults : ℕ) → Moves session (place limits front given faults from) (place limits later given faults to)

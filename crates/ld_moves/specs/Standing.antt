@@ -1,10 +1,17 @@
 -- What the history tells of a session, and of a flight, after these pages.
 use Rattle.std.specs.Prelude.{◌≡◌, ℕ, List, Some}
+use Rattle.ld_fits.specs.Play.{Stage, Lacking, Reloading}
+use Rattle.ld_flight.specs.Readied.{Readied}
+use Rattle.ld_flight.specs.declared.given.Given as loader
 use Rattle.ld_history.specs.Legal.{state}
 use Rattle.ld_history.specs.Words.{at_number, flight_at}
+use Rattle.ld_history.specs.declared.answers.PublishAnswer.{PublishAnswer}
+use Rattle.ld_history.specs.declared.answers.PublishAnswer.TheVariants as publish_answer
 use Rattle.ld_history.specs.declared.session.End.{End}
+use Rattle.ld_history.specs.declared.session.End.TheVariants as end
 use Rattle.ld_history.specs.declared.session.Flight.{Flight}
 use Rattle.ld_history.specs.declared.session.Last.{Last}
+use Rattle.ld_history.specs.declared.session.Last.TheVariants as last
 use Rattle.ld_history.specs.declared.session.Session.{Session}
 use Rattle.ld_book.specs.Pages.{Pages, entries_of}
 
@@ -27,3 +34,30 @@ pub record IsOf (pages : Pages) (number : ℕ) (iri : List ℕ) : Type 0 where
   pub flight : Flight
   pub is : IsFlightAt pages number flight
   pub iri_is : flight.iri ≡ iri
+
+-- The session has pinned this version for this request.
+pub record HasPinned (pages : Pages) (session request version : ℕ) : Type 0 where
+  pub s : Session
+  pub is : IsOpenAt pages session s
+  pub last_is : s.last ≡ last.Pinned
+  pub request_is : s.request ≡ request
+  pub version_is : s.version ≡ version
+
+-- the stage waits for a flight
+abbrev pub IsWaiting : Stage → Type 0
+IsWaiting (Lacking r op envelope iri) = Unit {0}
+IsWaiting (Reloading r iri) = Unit {0}
+IsWaiting _ = ⊥
+
+-- how a flight ended whose answer came
+abbrev pub end_by : PublishAnswer → End
+end_by (publish_answer.Published version) = end.Published version
+end_by publish_answer.Same = end.Same
+
+-- A loader gave this for the flight of this number, and it is what is ready to be published.
+pub record IsGiven (number : ℕ) (iri : List ℕ) (ready : Readied) (given : loader.Given) : Type 0 where
+  pub number_is : given.flight ≡ number
+  pub iri_is : given.iri ≡ iri
+  pub url_is : given.url ≡ ready.doc.url
+  pub length_is : given.length ≡ ready.length
+  pub mark_is : given.mark ≡ ready.mark

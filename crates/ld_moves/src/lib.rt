@@ -3,5 +3,7 @@
 #![tactic(auto)]
 
 mod laws;
+mod steps;
 
 pub use laws::{facts_are_kept, moves_add_up, stocks_stay};
+pub use steps::{answers_move, closes_move, pins_move};
