@@ -4,3 +4,6 @@ pub mod Joining
 pub mod Keeping
 pub mod Taking
 pub mod Stepping
+pub mod Quiet
+pub mod Lacking
+pub mod Landing

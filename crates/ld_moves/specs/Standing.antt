@@ -5,11 +5,14 @@ use Rattle.ld_flight.specs.Readied.{Readied}
 use Rattle.ld_flight.specs.declared.given.Given as loader
 use Rattle.ld_history.specs.Legal.{state}
 use Rattle.ld_history.specs.Words.{at_number, flight_at}
+use Rattle.ld_history.specs.declared.answers.LackAnswer.{LackAnswer}
+use Rattle.ld_history.specs.declared.answers.LackAnswer.TheVariants as lack_answer
 use Rattle.ld_history.specs.declared.answers.PublishAnswer.{PublishAnswer}
 use Rattle.ld_history.specs.declared.answers.PublishAnswer.TheVariants as publish_answer
 use Rattle.ld_history.specs.declared.session.End.{End}
 use Rattle.ld_history.specs.declared.session.End.TheVariants as end
 use Rattle.ld_history.specs.declared.session.Flight.{Flight}
+use Rattle.ld_history.specs.declared.session.Kind.TheVariants as kind
 use Rattle.ld_history.specs.declared.session.Last.{Last}
 use Rattle.ld_history.specs.declared.session.Last.TheVariants as last
 use Rattle.ld_history.specs.declared.session.Session.{Session}
@@ -61,3 +64,12 @@ pub record IsGiven (number : ℕ) (iri : List ℕ) (ready : Readied) (given : lo
   pub url_is : given.url ≡ ready.doc.url
   pub length_is : given.length ≡ ready.length
   pub mark_is : given.mark ≡ ready.mark
+
+-- After a lack, by what it answers: the context was found, or the session joined a flight for it, or led one. Where it is
+-- refused, no request is under way.
+abbrev pub AfterLack : Pages → ℕ → List ℕ → LackAnswer → Type 0
+AfterLack pages session iri lack_answer.There = Stands pages session last.Found
+AfterLack pages session iri (lack_answer.Joined flight) = Stands pages session (last.Joined flight) × IsOf pages flight iri
+AfterLack pages session iri (lack_answer.Led flight out) =
+    Stands pages session (last.Led flight) × IsFlightAt pages flight (record { iri = iri; kind = kind.Lead; session = session; end = end.UnderWay })
+AfterLack pages session iri _ = Stands pages session last.Idle

@@ -6,4 +6,4 @@ mod laws;
 mod steps;
 
 pub use laws::{facts_are_kept, moves_add_up, stocks_stay};
-pub use steps::{answers_move, closes_move, pins_move};
+pub use steps::{answers_move, closes_move, fails_move, lacks_move, lapses_move, pins_move};
