@@ -7,3 +7,4 @@ pub mod Stepping
 pub mod Quiet
 pub mod Lacking
 pub mod Landing
+pub mod Publishing

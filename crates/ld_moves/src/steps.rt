@@ -2,18 +2,20 @@
 ghost use Rattle.std.specs.Prelude.{◌≡◌, ◌⊎◌, ◌≤◌, ℕ, List, [], ◌∷◌, ◌++◌, Some, Err};
 ghost use Rattle.ld_answer.specs.declared.envelope.Envelope.{Envelope};
 ghost use Rattle.ld_answer.specs.declared.op.Op.{Op};
-ghost use Rattle.ld_book.specs.Pages.{Booked, Pages, after_step, entries_of, history_of};
+ghost use Rattle.ld_book.specs.Pages.{Booked, Pages, after_answer, after_step, entries_of, given_of, history_of};
 ghost use Rattle.ld_edge.specs.Faults.{Rose};
 ghost use Rattle.ld_fits.specs.Asks.{Heard};
 ghost use Rattle.ld_fits.specs.Leading.{after_lack};
 ghost use Rattle.ld_fits.specs.Play as play;
 ghost use Rattle.ld_fits.specs.Play.{Idle, Lacking, Request, Shut, Stage, pinned, pinned_again, step};
+ghost use Rattle.ld_flight.specs.Readied.{Readied, Tells};
 ghost use Rattle.ld_flight.specs.declared.given.Given as loader;
 ghost use Rattle.ld_history.specs.Legal.{state};
 ghost use Rattle.ld_history.specs.Rules.{end_of};
-ghost use Rattle.ld_history.specs.Steps.{Answers, Taken, answer_step, close_step, fail_step, lack_step, lapse_step, pin_step};
+ghost use Rattle.ld_history.specs.Steps.{Answers, Taken, answer_step, close_step, fail_step, lack_step, lapse_step, pin_step, publish_step};
 ghost use Rattle.ld_history.specs.declared.answers.LackAnswer.{LackAnswer};
 ghost use Rattle.ld_history.specs.declared.answers.PinAnswer.TheVariants as pin_answer;
+ghost use Rattle.ld_history.specs.declared.answers.PublishAnswer.{PublishAnswer};
 ghost use Rattle.ld_history.specs.declared.event.Event.TheVariants as event;
 ghost use Rattle.ld_history.specs.declared.event.How.{How};
 ghost use Rattle.ld_history.specs.declared.limits.Limits.{Limits};
@@ -23,7 +25,7 @@ ghost use Rattle.ld_history.specs.declared.session.Session.{Session};
 ghost use Rattle.ld_history.specs.declared.session.Last.TheVariants as last;
 ghost use Rattle.ld_rec.specs.declared.stop.Stop.TheVariants as stop;
 ghost use Rattle.ld_moves.specs.Moving.{Finds, Moves, MovesOn, place, version_in};
-ghost use Rattle.ld_moves.specs.Standing.{AfterLack, HasPinned, IsFlightAt, IsOpenAt, IsWaiting, Stands};
+ghost use Rattle.ld_moves.specs.Standing.{AfterLack, HasPinned, IsFlightAt, IsGiven, IsOpenAt, IsWaiting, Stands, end_by};
 ghost use Rattle.ld_moves.specs.Stocks.{stocks};
 
 /// A pin moves a session on to its next request, or to the next attempt of an evaluation. What is pinned is the current version.
@@ -96,4 +98,16 @@ pub fn lapses_move()
         → lapse_step (history_of found) number ≡ Some t → end_of (state (entries_of (after_step found (lapse_step (history_of found) number)).pages)) number ≡ Some end.Lapsed }
     ensures stands { (session : ℕ) (limits : Limits) (front : Pages) (found : Booked) (number : ℕ) (flight : Flight) (t : Taken (Unit {0})) (s : Session) → Finds session limits front found → flight.session ≡ session → IsFlightAt found.pages number flight
         → lapse_step (history_of found) number ≡ Some t → IsOpenAt found.pages session s → IsOpenAt (after_step found (lapse_step (history_of found) number)).pages session s }
+{}
+
+/// An answer for a flight that the session led leaves it waiting at its stage, and is what its loader gave. The flight has ended
+/// as the step answers then, and the session stands as it stood.
+pub fn publishes_move()
+    ensures moves { (session : ℕ) (limits : Limits) (front : Pages) (found : Booked) (number : ℕ) (flight : Flight) (ready : Readied) (t : Taken PublishAnswer) (stage : Stage) (given : List loader.Given) (x : loader.Given) (faults : ℕ) → Finds session limits front found → flight.session ≡ session → IsFlightAt found.pages number flight → Tells ready.doc ready.length ready.mark
+        → publish_step (history_of found) number (given_of ready) ≡ Some t → IsGiven number flight.iri ready x → IsWaiting stage
+        → Moves session (place limits front given faults stage) (place limits (after_answer found (publish_step (history_of found) number (given_of ready)) ready.doc).pages (given ++ x ∷ []) faults stage) }
+    ensures ends { (session : ℕ) (limits : Limits) (front : Pages) (found : Booked) (number : ℕ) (flight : Flight) (ready : Readied) (t : Taken PublishAnswer) → Finds session limits front found → flight.session ≡ session → IsFlightAt found.pages number flight → Tells ready.doc ready.length ready.mark
+        → publish_step (history_of found) number (given_of ready) ≡ Some t → end_of (state (entries_of (after_answer found (publish_step (history_of found) number (given_of ready)) ready.doc).pages)) number ≡ Some (end_by t.answer) }
+    ensures stands { (session : ℕ) (limits : Limits) (front : Pages) (found : Booked) (number : ℕ) (flight : Flight) (ready : Readied) (t : Taken PublishAnswer) (s : Session) → Finds session limits front found → flight.session ≡ session → IsFlightAt found.pages number flight → Tells ready.doc ready.length ready.mark
+        → publish_step (history_of found) number (given_of ready) ≡ Some t → IsOpenAt found.pages session s → IsOpenAt (after_answer found (publish_step (history_of found) number (given_of ready)) ready.doc).pages session s }
 {}
