@@ -107,7 +107,7 @@ module _ (had : Had) (limits : Limits) (store : Store) (session : ℕ) (iri : Li
   lack_by : Holds P (steps.lack_taken had limits store session iri)
   lack_by = in_session (at_number store.sessions session) (λ s. if steps.may_lack had iri s then steps.missing limits store session iri s else None) (λ s. lacking_by s (steps.may_lack had iri s))
 
-refused_quiet : (session : ℕ) (es : Entries) → IsRefused session es → AreQuiet es
+pub refused_quiet : (session : ℕ) (es : Entries) → IsRefused session es → AreQuiet es
 refused_quiet session es h = subst AreQuiet (sym h.2) (refl, tt)
 
 lack_quiet : (session : ℕ) (iri : List ℕ) (a : LackAnswer) (es : Entries) → LackBy session iri a es → AreQuiet es

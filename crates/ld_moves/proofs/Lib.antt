@@ -8,3 +8,4 @@ pub mod Quiet
 pub mod Lacking
 pub mod Landing
 pub mod Publishing
+pub mod Evicting

@@ -5,14 +5,15 @@ ghost use Rattle.ld_answer.specs.declared.op.Op.{Op};
 ghost use Rattle.ld_book.specs.Pages.{Booked, Pages, after_answer, after_step, entries_of, given_of, history_of};
 ghost use Rattle.ld_edge.specs.Faults.{Rose};
 ghost use Rattle.ld_fits.specs.Asks.{Heard};
-ghost use Rattle.ld_fits.specs.Leading.{after_lack};
+ghost use Rattle.ld_fits.specs.Leading.{after_evict, after_lack};
 ghost use Rattle.ld_fits.specs.Play as play;
 ghost use Rattle.ld_fits.specs.Play.{Idle, Lacking, Request, Shut, Stage, pinned, pinned_again, step};
 ghost use Rattle.ld_flight.specs.Readied.{Readied, Tells};
 ghost use Rattle.ld_flight.specs.declared.given.Given as loader;
 ghost use Rattle.ld_history.specs.Legal.{state};
 ghost use Rattle.ld_history.specs.Rules.{end_of};
-ghost use Rattle.ld_history.specs.Steps.{Answers, Taken, answer_step, close_step, fail_step, lack_step, lapse_step, pin_step, publish_step};
+ghost use Rattle.ld_history.specs.Steps.{Answers, Taken, answer_step, close_step, evict_step, fail_step, lack_step, lapse_step, pin_step, publish_step};
+ghost use Rattle.ld_history.specs.declared.answers.EvictAnswer.{EvictAnswer};
 ghost use Rattle.ld_history.specs.declared.answers.LackAnswer.{LackAnswer};
 ghost use Rattle.ld_history.specs.declared.answers.PinAnswer.TheVariants as pin_answer;
 ghost use Rattle.ld_history.specs.declared.answers.PublishAnswer.{PublishAnswer};
@@ -110,4 +111,13 @@ pub fn publishes_move()
         → publish_step (history_of found) number (given_of ready) ≡ Some t → end_of (state (entries_of (after_answer found (publish_step (history_of found) number (given_of ready)) ready.doc).pages)) number ≡ Some (end_by t.answer) }
     ensures stands { (session : ℕ) (limits : Limits) (front : Pages) (found : Booked) (number : ℕ) (flight : Flight) (ready : Readied) (t : Taken PublishAnswer) (s : Session) → Finds session limits front found → flight.session ≡ session → IsFlightAt found.pages number flight → Tells ready.doc ready.length ready.mark
         → publish_step (history_of found) number (given_of ready) ≡ Some t → IsOpenAt found.pages session s → IsOpenAt (after_answer found (publish_step (history_of found) number (given_of ready)) ready.doc).pages session s }
+{}
+
+/// An eviction moves a session on to where its answer says, and no request is under way then.
+pub fn evictions_move()
+    ensures moves { (session : ℕ) (limits : Limits) (front : Pages) (found : Booked) (r : Request) (iri : List ℕ) (t : Taken EvictAnswer) → Finds session limits front found
+        → evict_step (history_of found) session iri ≡ Some t
+        → MovesOn session limits front (after_step found (evict_step (history_of found) session iri)).pages (play.Evicting r iri) (after_evict r t.answer) }
+    ensures told { (session : ℕ) (limits : Limits) (front : Pages) (found : Booked) (iri : List ℕ) (t : Taken EvictAnswer) → Finds session limits front found
+        → evict_step (history_of found) session iri ≡ Some t → Stands (after_step found (evict_step (history_of found) session iri)).pages session last.Idle }
 {}
