@@ -148,33 +148,36 @@ module _ (session : ℕ) (limits : Limits) (front : Pages) (found : Booked) (f :
         let p = read_join limits store session iri flight (subst (LegalFrom limits store) h legal).0 in
         let lead = some_and _ _ p.led in
         let number : lead.0.flight ≡ flight = eqb-true lead.0.flight flight lead.2 in
-        subst (λ (es : Entries). AfterLack (found.pages ++ bare es) session iri (lack_answer.Joined flight)) (sym h)
-        (stands_one (event.Joined session iri flight) (record p.s { held = p.s.held ++ iri ∷ []; last = last.Joined flight }) (held_one (last.Joined flight) p.s p.is),
-        record {
-          flight = record { iri = iri; kind = kind.Lead; session = lead.0.session; end = end.UnderWay };
-          is = ap (λ (st : Store). flight_at st.flights flight) (after_one session limits front found f (event.Joined session iri flight))
-              ∙ ap (flight_at store.flights) (sym number) ∙ (sound limits (entries_of found.pages) (turns_legal session limits front found f)).air.flights.listed kind.Lead iri lead.0 lead.1;
-          iri_is = refl;
-        })
+        subst (λ (es : Entries). AfterLack (found.pages ++ bare es) session iri (lack_answer.Joined flight)) (sym h) (
+          stands_one (event.Joined session iri flight) (record p.s { held = p.s.held ++ iri ∷ []; last = last.Joined flight }) (held_one (last.Joined flight) p.s p.is),
+          record {
+            flight = record { iri = iri; kind = kind.Lead; session = lead.0.session; end = end.UnderWay };
+            is = ap (λ (st : Store). flight_at st.flights flight) (after_one session limits front found f (event.Joined session iri flight))
+                ∙ ap (flight_at store.flights) (sym number) ∙ (sound limits (entries_of found.pages) (turns_legal session limits front found f)).air.flights.listed kind.Lead iri lead.0 lead.1;
+            iri_is = refl;
+          },
+        )
     tells (lack_answer.Led flight None) es h legal =
         let p = read_lead limits store session iri flight (subst (LegalFrom limits store) h legal).0 in
-        subst (λ (es : Entries). AfterLack (found.pages ++ bare es) session iri (lack_answer.Led flight None)) (sym h)
-        (stands_one (event.Led session iri flight) (record p.s { held = p.s.held ++ iri ∷ []; last = last.Led flight }) (held_one (last.Led flight) p.s p.is),
-        ap (λ (st : Store). flight_at st.flights flight) (after_one session limits front found f (event.Led session iri flight))
-        ∙ flight_last store.flights (record { iri = iri; kind = kind.Lead; session = session; end = end.UnderWay }) flight p.has.next)
+        subst (λ (es : Entries). AfterLack (found.pages ++ bare es) session iri (lack_answer.Led flight None)) (sym h) (
+          stands_one (event.Led session iri flight) (record p.s { held = p.s.held ++ iri ∷ []; last = last.Led flight }) (held_one (last.Led flight) p.s p.is),
+          ap (λ (st : Store). flight_at st.flights flight) (after_one session limits front found f (event.Led session iri flight))
+              ∙ flight_last store.flights (record { iri = iri; kind = kind.Lead; session = session; end = end.UnderWay }) flight p.has.next,
+        )
     tells (lack_answer.Led flight (Some out)) es h legal =
         let ok = subst (LegalFrom limits store) h legal in
         let made : Store = after store (plain (event.Evicted session out.iri out.version)) in
         let p = read_lead limits made session iri flight ok.1.0 in
         let now = state_with session limits front found f (bare (plain (event.Evicted session out.iri out.version) ∷ plain (event.Led session iri flight) ∷ [])) in
-        subst (λ (es : Entries). AfterLack (found.pages ++ bare es) session iri (lack_answer.Led flight (Some out))) (sym h)
-        (record {
-          s = record p.s { held = p.s.held ++ iri ∷ []; last = last.Led flight };
-          is = ap (λ (st : Store). at_number st.sessions session) now ∙ changed_same made.sessions session (λ (s : Session). record s { held = s.held ++ iri ∷ []; last = last.Led flight }) p.s p.is;
-          last_is = refl;
-        },
-        ap (λ (st : Store). flight_at st.flights flight) now
-        ∙ flight_last store.flights (record { iri = iri; kind = kind.Lead; session = session; end = end.UnderWay }) flight p.has.next)
+        subst (λ (es : Entries). AfterLack (found.pages ++ bare es) session iri (lack_answer.Led flight (Some out))) (sym h) (
+          record {
+            s = record p.s { held = p.s.held ++ iri ∷ []; last = last.Led flight };
+            is = ap (λ (st : Store). at_number st.sessions session) now ∙ changed_same made.sessions session (λ (s : Session). record s { held = s.held ++ iri ∷ []; last = last.Led flight }) p.s p.is;
+            last_is = refl;
+          },
+          ap (λ (st : Store). flight_at st.flights flight) now
+              ∙ flight_last store.flights (record { iri = iri; kind = kind.Lead; session = session; end = end.UnderWay }) flight p.has.next,
+        )
     tells (lack_answer.TooMany held) es h legal = refused_stands es h legal
     tells lack_answer.StoreFull es h legal = refused_stands es h legal
     tells (lack_answer.ArchiveFull bytes) es h legal = refused_stands es h legal

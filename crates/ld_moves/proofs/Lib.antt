@@ -9,3 +9,4 @@ pub mod Lacking
 pub mod Landing
 pub mod Publishing
 pub mod Evicting
+pub mod Revising

@@ -9,6 +9,8 @@ use Rattle.ld_history.specs.declared.answers.LackAnswer.{LackAnswer}
 use Rattle.ld_history.specs.declared.answers.LackAnswer.TheVariants as lack_answer
 use Rattle.ld_history.specs.declared.answers.PublishAnswer.{PublishAnswer}
 use Rattle.ld_history.specs.declared.answers.PublishAnswer.TheVariants as publish_answer
+use Rattle.ld_history.specs.declared.answers.ReviseAnswer.{ReviseAnswer}
+use Rattle.ld_history.specs.declared.answers.ReviseAnswer.TheVariants as revise_answer
 use Rattle.ld_history.specs.declared.session.End.{End}
 use Rattle.ld_history.specs.declared.session.End.TheVariants as end
 use Rattle.ld_history.specs.declared.session.Flight.{Flight}
@@ -73,3 +75,9 @@ AfterLack pages session iri (lack_answer.Joined flight) = Stands pages session (
 AfterLack pages session iri (lack_answer.Led flight out) =
     Stands pages session (last.Led flight) × IsFlightAt pages flight (record { iri = iri; kind = kind.Lead; session = session; end = end.UnderWay })
 AfterLack pages session iri _ = Stands pages session last.Idle
+
+-- After a revision is asked for: the session led a flight for the context. Where it is refused, no request is under way.
+abbrev pub AfterRevise : Pages → ℕ → List ℕ → ReviseAnswer → Type 0
+AfterRevise pages session iri (revise_answer.Led flight) =
+    Stands pages session (last.ReviseLed flight) × IsFlightAt pages flight (record { iri = iri; kind = kind.Revise; session = session; end = end.UnderWay })
+AfterRevise pages session iri _ = Stands pages session last.Idle

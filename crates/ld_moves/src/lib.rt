@@ -10,11 +10,15 @@
 //! To be believed: `specs/Stocks.antt` (what a version of a book has, and when a book is sound), `specs/Moving.antt` (places and
 //! moves) and `specs/Standing.antt` (what the history tells of a session and of a flight). Laws of places: `stocks_stay`,
 //! `moves_add_up`, `facts_are_kept`. Of steps: `pins_move`, `lacks_move`, `answers_move`, `publishes_move`, `fails_move`,
-//! `lapses_move`, `evictions_move`, `closes_move`.
+//! `lapses_move`, `revisions_move`, `evictions_move`,
+//! `closes_move`.
 #![tactic(auto)]
 
 mod laws;
 mod steps;
 
 pub use laws::{facts_are_kept, moves_add_up, stocks_stay};
-pub use steps::{answers_move, closes_move, evictions_move, fails_move, lacks_move, lapses_move, pins_move, publishes_move};
+pub use steps::{
+    answers_move, closes_move, evictions_move, fails_move, lacks_move, lapses_move, pins_move,
+    publishes_move, revisions_move,
+};

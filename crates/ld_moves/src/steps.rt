@@ -5,18 +5,19 @@ ghost use Rattle.ld_answer.specs.declared.op.Op.{Op};
 ghost use Rattle.ld_book.specs.Pages.{Booked, Pages, after_answer, after_step, entries_of, given_of, history_of};
 ghost use Rattle.ld_edge.specs.Faults.{Rose};
 ghost use Rattle.ld_fits.specs.Asks.{Heard};
-ghost use Rattle.ld_fits.specs.Leading.{after_evict, after_lack};
+ghost use Rattle.ld_fits.specs.Leading.{after_evict, after_lack, after_revise};
 ghost use Rattle.ld_fits.specs.Play as play;
 ghost use Rattle.ld_fits.specs.Play.{Idle, Lacking, Request, Shut, Stage, pinned, pinned_again, step};
 ghost use Rattle.ld_flight.specs.Readied.{Readied, Tells};
 ghost use Rattle.ld_flight.specs.declared.given.Given as loader;
 ghost use Rattle.ld_history.specs.Legal.{state};
 ghost use Rattle.ld_history.specs.Rules.{end_of};
-ghost use Rattle.ld_history.specs.Steps.{Answers, Taken, answer_step, close_step, evict_step, fail_step, lack_step, lapse_step, pin_step, publish_step};
+ghost use Rattle.ld_history.specs.Steps.{Answers, Taken, answer_step, close_step, evict_step, fail_step, lack_step, lapse_step, pin_step, publish_step, revise_step};
 ghost use Rattle.ld_history.specs.declared.answers.EvictAnswer.{EvictAnswer};
 ghost use Rattle.ld_history.specs.declared.answers.LackAnswer.{LackAnswer};
 ghost use Rattle.ld_history.specs.declared.answers.PinAnswer.TheVariants as pin_answer;
 ghost use Rattle.ld_history.specs.declared.answers.PublishAnswer.{PublishAnswer};
+ghost use Rattle.ld_history.specs.declared.answers.ReviseAnswer.{ReviseAnswer};
 ghost use Rattle.ld_history.specs.declared.event.Event.TheVariants as event;
 ghost use Rattle.ld_history.specs.declared.event.How.{How};
 ghost use Rattle.ld_history.specs.declared.limits.Limits.{Limits};
@@ -26,7 +27,7 @@ ghost use Rattle.ld_history.specs.declared.session.Session.{Session};
 ghost use Rattle.ld_history.specs.declared.session.Last.TheVariants as last;
 ghost use Rattle.ld_rec.specs.declared.stop.Stop.TheVariants as stop;
 ghost use Rattle.ld_moves.specs.Moving.{Finds, Moves, MovesOn, place, version_in};
-ghost use Rattle.ld_moves.specs.Standing.{AfterLack, HasPinned, IsFlightAt, IsGiven, IsOpenAt, IsWaiting, Stands, end_by};
+ghost use Rattle.ld_moves.specs.Standing.{AfterLack, AfterRevise, HasPinned, IsFlightAt, IsGiven, IsOpenAt, IsWaiting, Stands, end_by};
 ghost use Rattle.ld_moves.specs.Stocks.{stocks};
 
 /// A pin moves a session on to its next request, or to the next attempt of an evaluation. What is pinned is the current version.
@@ -120,4 +121,13 @@ pub fn evictions_move()
         → MovesOn session limits front (after_step found (evict_step (history_of found) session iri)).pages (play.Evicting r iri) (after_evict r t.answer) }
     ensures told { (session : ℕ) (limits : Limits) (front : Pages) (found : Booked) (iri : List ℕ) (t : Taken EvictAnswer) → Finds session limits front found
         → evict_step (history_of found) session iri ≡ Some t → Stands (after_step found (evict_step (history_of found) session iri)).pages session last.Idle }
+{}
+
+/// A revision moves a session on to where its answer says, and so does the session stand then.
+pub fn revisions_move()
+    ensures moves { (session : ℕ) (limits : Limits) (front : Pages) (found : Booked) (r : Request) (iri : List ℕ) (t : Taken ReviseAnswer) → Finds session limits front found
+        → revise_step (history_of found) session iri ≡ Some t
+        → MovesOn session limits front (after_step found (revise_step (history_of found) session iri)).pages (play.Revising r iri) (after_revise r iri t.answer) }
+    ensures told { (session : ℕ) (limits : Limits) (front : Pages) (found : Booked) (iri : List ℕ) (t : Taken ReviseAnswer) → Finds session limits front found
+        → revise_step (history_of found) session iri ≡ Some t → AfterRevise (after_step found (revise_step (history_of found) session iri)).pages session iri t.answer }
 {}
