@@ -4,7 +4,7 @@ use Rattle.std.specs.Prelude.{Option, Some, None, if◌then◌else◌}
 use Rattle.ld_history.specs.After.{after}
 use Rattle.ld_history.specs.ByTurns.{LegalFrom}
 use Rattle.ld_history.specs.Legal.{Entries, state}
-use Rattle.ld_history.specs.Plans.{AllowsStep, evict_found}
+use Rattle.ld_history.specs.Plans.{AllowsStep}
 use Rattle.ld_history.specs.Steps as steps
 use Rattle.ld_history.specs.Steps.{Taken, appended, plain}
 use Rattle.ld_history.specs.Store.{Store}

@@ -1,12 +1,10 @@
 -- Moves one after another.
-use Rattle.std.proofs.Common.{◌≡◌, ◌∙◌, ℕ, ◌≤◌, List, [], ◌∷◌, ◌++◌, refl, sym, ap, subst, append_assoc, append-nil, arith}
+use Rattle.std.proofs.Common.{◌∙◌, ℕ, ◌≤◌, List, [], ◌∷◌, ◌++◌, refl, sym, ap, subst, append_assoc, append-nil, arith}
 use mathlib.Core.List.{IsPrefix}
 use Rattle.ld_flight.specs.declared.given.Given as loader
-use Rattle.ld_history.specs.Legal.{Entries, Legal, state}
 use Rattle.ld_history.specs.declared.event.Event.{Event}
 use Rattle.ld_history.specs.declared.event.Event.TheVariants as event
 use Rattle.ld_history.specs.declared.limits.Limits.{Limits}
-use Rattle.ld_history.proofs.LawAlong.{replay-append}
 use Rattle.ld_rec.specs.Outcome.{Stock}
 use Rattle.ld_own.specs.Own.{Placed}
 use Rattle.ld_own.proofs.Adding.{adds_none, adds_trans}
@@ -17,7 +15,7 @@ use Rattle.ld_fits.proofs.Staying.{leads_on}
 use Rattle.ld_book.specs.Pages.{Booked, Pages, entries_of}
 use Rattle.ld_moves.specs.Moving.{Finds, Moves, Place, place, version_in}
 use Rattle.ld_moves.specs.Stocks.{IsSound, stocks}
-use Rattle.ld_moves.proofs.Staying.{entries_on, stocks_stay_on, versions_rise}
+use Rattle.ld_moves.proofs.Staying.{stocks_stay_on, versions_rise}
 
 pub prefix_trans : {A : Type 0} (xs ys zs : List A) → IsPrefix xs ys → IsPrefix ys zs → IsPrefix xs zs
 prefix_trans xs ys zs p q = (p.0 ++ q.0, sym (append_assoc xs p.0 q.0) ∙ ap (λ l. l ++ q.0) p.1 ∙ q.1)

@@ -1,5 +1,5 @@
 -- What is known of sessions and flights at a front is so at the next turn.
-use Rattle.std.proofs.Common.{◌≡◌, ◌∙◌, ◌⊎◌, inl, inr, ℕ, ◌≤◌, Bool, true, false, List, [], ◌∷◌, ◌++◌, refl, sym, ap, subst, nat_cmp}
+use Rattle.std.proofs.Common.{◌≡◌, ◌∙◌, ◌⊎◌, inl, inr, ℕ, ◌≤◌, true, false, List, [], ◌∷◌, ◌++◌, refl, sym, ap, subst, nat_cmp}
 use Rattle.std.specs.Prelude.{Option, Some, None, is_some}
 use Rattle.std.specs.Option.{option_map}
 use Rattle.std.specs.Ordering.{is_eq}
@@ -9,7 +9,6 @@ use Rattle.ld_history.specs.Legal.{Entries, Legal, is_in_stock, replay, state}
 use Rattle.ld_history.specs.Rules.{end_of, is_flying}
 use Rattle.ld_history.specs.Store.{Store, empty_store}
 use Rattle.ld_history.specs.Words.{at_iri, flight_at, is_some_and, is_under_way}
-use Rattle.ld_history.specs.declared.event.Entry.{Entry}
 use Rattle.ld_history.specs.declared.event.Event.{Event}
 use Rattle.ld_history.specs.declared.event.Event.TheVariants as event
 use Rattle.ld_history.specs.declared.event.Given.{Given}

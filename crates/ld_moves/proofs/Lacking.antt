@@ -5,7 +5,7 @@ use Rattle.ld_answer.specs.declared.envelope.Envelope.{Envelope}
 use Rattle.ld_answer.specs.declared.op.Op.{Op}
 use Rattle.ld_rec.specs.declared.stop.Stop.TheVariants as stop
 use Rattle.ld_history.specs.After.{after, holding}
-use Rattle.ld_history.specs.ByTurns.{LegalFrom, lack_found}
+use Rattle.ld_history.specs.ByTurns.{LegalFrom}
 use Rattle.ld_history.specs.Legal.{Entries, is_in_stock, state}
 use Rattle.ld_history.specs.Plans.{AllowsStep}
 use Rattle.ld_history.specs.Rules.{Had, is_full}
@@ -32,12 +32,12 @@ use Rattle.ld_history.proofs.LawSound.{sound}
 use Rattle.ld_history.proofs.LawTold.{lack_told}
 use Rattle.ld_history.proofs.StepLack.{lack_allowed}
 use Rattle.ld_fits.specs.Leading.{after_lack}
-use Rattle.ld_fits.specs.Play.{Pinned, Request, Stage}
+use Rattle.ld_fits.specs.Play.{Pinned, Request}
 use Rattle.ld_fits.proofs.Leading.{lack_goes}
 use Rattle.ld_book.specs.Pages.{Booked, Pages, after_step, bare, entries_of, history_of}
 use Rattle.ld_book.proofs.Saying.{Holds}
 use Rattle.ld_moves.specs.Moving.{Finds, MovesOn}
-use Rattle.ld_moves.specs.Standing.{AfterLack, IsFlightAt, IsOf, Stands}
+use Rattle.ld_moves.specs.Standing.{AfterLack, Stands}
 use Rattle.ld_moves.proofs.Quiet.{AreQuiet, quiet_moves}
 use Rattle.ld_moves.proofs.Stepping.{after_one, as_step}
 use Rattle.ld_moves.proofs.Taking.{state_with, turns_legal}

@@ -1,12 +1,10 @@
 -- The ends of flights.
-use Rattle.std.proofs.Common.{◌≡◌, ◌∙◌, ◌⊎◌, inl, inr, ℕ, ◌+◌, ◌≤◌, Bool, true, false, List, [], ◌∷◌, ◌++◌, refl, sym, ap, subst, arith, append-nil, eq-eqb}
-use Rattle.std.specs.Prelude.{Option, Some, None, unwrap_or, ◌==◌}
+use Rattle.std.proofs.Common.{◌≡◌, ◌∙◌, ◌⊎◌, inl, inr, ℕ, ◌+◌, ◌≤◌, Bool, true, false, List, [], ◌∷◌, ◌++◌, refl, sym, ap, arith, append-nil, eq-eqb}
+use Rattle.std.specs.Prelude.{Some, None, unwrap_or, ◌==◌}
 use Rattle.std.specs.Option.{option_map}
 use Rattle.ld_edge.specs.Faults.{Rose}
 use Rattle.ld_flight.specs.declared.given.Given as loader
-use Rattle.ld_history.specs.After.{after, ended_as, landed, with_flight}
-use Rattle.ld_history.specs.ByTurns.{allows}
-use Rattle.ld_history.specs.Counts.{owner}
+use Rattle.ld_history.specs.After.{after, landed, with_flight}
 use Rattle.ld_history.specs.Legal.{state}
 use Rattle.ld_history.specs.Rules as rules
 use Rattle.ld_history.specs.Rules.{end_of}
@@ -16,7 +14,6 @@ use Rattle.ld_history.specs.Store.{Store}
 use Rattle.ld_history.specs.Words.{at_number, flight_at}
 use Rattle.ld_history.specs.declared.event.Event.TheVariants as event
 use Rattle.ld_history.specs.declared.limits.Limits.{Limits}
-use Rattle.ld_history.specs.declared.session.End.{End}
 use Rattle.ld_history.specs.declared.session.End.TheVariants as end
 use Rattle.ld_history.specs.declared.session.Flight.{Flight}
 use Rattle.ld_history.specs.declared.session.Session.{Session}
@@ -24,10 +21,9 @@ use Rattle.ld_history.proofs.LawFlights.{flight_ended}
 use Rattle.ld_own.specs.Loads.{IsFor}
 use Rattle.ld_own.specs.Own.{placed}
 use Rattle.ld_fits.specs.Play.{Lacking, Reloading, Stage}
-use Rattle.ld_book.specs.Pages.{Booked, Pages, after_step, bare, entries_of, history_of}
-use Rattle.ld_moves.specs.Moving.{Finds, Moves, MovesOn, place}
+use Rattle.ld_book.specs.Pages.{Booked, Pages, after_step, entries_of, history_of}
+use Rattle.ld_moves.specs.Moving.{Finds, Moves, place}
 use Rattle.ld_moves.specs.Standing.{IsFlightAt, IsOpenAt, IsWaiting}
-use Rattle.ld_moves.specs.Stocks.{stocks}
 use Rattle.ld_moves.proofs.Stepping.{after_one, as_step}
 use Rattle.ld_moves.proofs.Taking.{one_moves, plain_is_page, plain_page}
 

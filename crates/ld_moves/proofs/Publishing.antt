@@ -1,18 +1,18 @@
 -- An answer of a flight.
-use Rattle.std.proofs.Common.{◌≡◌, ◌∙◌, ◌⊎◌, inl, inr, ℕ, ◌+◌, ◌≤◌, Bool, true, false, not, ◌&&◌, ◌||◌, List, [], ◌∷◌, ◌++◌, refl, sym, ap, subst, arith, eq-eqb}
+use Rattle.std.proofs.Common.{◌≡◌, ◌∙◌, ◌⊎◌, inl, inr, ℕ, ◌+◌, Bool, true, false, not, ◌&&◌, ◌||◌, List, [], ◌∷◌, ◌++◌, refl, sym, ap, subst, arith, eq-eqb}
 use Rattle.std.specs.Prelude.{Option, Some, None, map, nat_le, if◌then◌else◌}
 use Rattle.std.specs.Option.{option_map}
 use Rattle.std.proofs.lemmas.Bool.{and_from}
 use Rattle.ld_flight.specs.Readied.{Readied, Tells}
 use Rattle.ld_flight.specs.declared.given.Given as loader
-use Rattle.ld_history.specs.After.{after, answered_by, landed, with_flight}
+use Rattle.ld_history.specs.After.{answered_by, landed, with_flight}
 use Rattle.ld_history.specs.Legal.{state}
 use Rattle.ld_history.specs.Rules as rules
 use Rattle.ld_history.specs.Rules.{end_of}
 use Rattle.ld_history.specs.Steps as steps
 use Rattle.ld_history.specs.Steps.{Taken, appended}
 use Rattle.ld_history.specs.Store.{Store}
-use Rattle.ld_history.specs.Words.{at_number, flight_at, is_lead, is_some_and, is_stored_answer, is_under_way}
+use Rattle.ld_history.specs.Words.{at_number, is_lead, is_some_and, is_stored_answer, is_under_way}
 use Rattle.ld_history.specs.declared.answers.PublishAnswer.{PublishAnswer}
 use Rattle.ld_history.specs.declared.answers.PublishAnswer.TheVariants as publish_answer
 use Rattle.ld_history.specs.declared.event.Entry.{Entry}

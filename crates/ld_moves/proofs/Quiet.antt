@@ -1,17 +1,14 @@
 -- Steps that neither pin a version nor end a flight.
-use Rattle.std.proofs.Common.{◌≡◌, ◌∙◌, ℕ, ◌≤◌, Bool, true, false, List, [], ◌∷◌, ◌++◌, refl, sym, ap, subst, append-nil, arith}
-use Rattle.std.specs.Prelude.{Option, Some, None, map, if◌then◌else◌, ◌==◌}
+use Rattle.std.proofs.Common.{◌≡◌, ℕ, Bool, true, false, List, [], ◌∷◌, ◌++◌, refl, sym, ap, subst, append-nil, arith}
+use Rattle.std.specs.Prelude.{None, if◌then◌else◌, ◌==◌}
 use Rattle.std.proofs.lemmas.List.Elements.{All-cons, All-nil}
-use Rattle.ld_flight.specs.declared.given.Given as loader
 use Rattle.ld_history.specs.After.{after}
 use Rattle.ld_history.specs.ByTurns.{LegalFrom}
 use Rattle.ld_history.specs.Counts.{owner}
 use Rattle.ld_history.specs.Legal.{Entries, state}
 use Rattle.ld_history.specs.Store.{Store}
-use Rattle.ld_history.specs.declared.event.Entry.{Entry}
 use Rattle.ld_history.specs.declared.event.Event.{Event}
 use Rattle.ld_history.specs.declared.event.Event.TheVariants as event
-use Rattle.ld_history.specs.declared.event.Given.{Given}
 use Rattle.ld_history.specs.declared.limits.Limits.{Limits}
 use Rattle.ld_rec.specs.Outcome.{Stock}
 use Rattle.ld_own.specs.Loads.{BringsBy, Gained, Spans, after_fault}
@@ -20,7 +17,7 @@ use Rattle.ld_fits.specs.Fits.{Leads, PinWithin, pins_within}
 use Rattle.ld_fits.specs.Play.{Stage}
 use Rattle.ld_book.specs.Documents.{ArePages, IsBrought, IsPage}
 use Rattle.ld_book.specs.Pages.{Booked, Pages, bare, brings, entries_of}
-use Rattle.ld_moves.specs.Moving.{Finds, Moves, MovesOn, place, version_in}
+use Rattle.ld_moves.specs.Moving.{Finds, MovesOn, version_in}
 use Rattle.ld_moves.specs.Stocks.{stocks}
 use Rattle.ld_moves.proofs.Taking.{taken_moves}
 

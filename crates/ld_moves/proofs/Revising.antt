@@ -1,10 +1,9 @@
 -- A revision.
 use Rattle.std.proofs.Common.{◌≡◌, ◌∙◌, ℕ, Bool, true, false, List, [], ◌∷◌, ◌++◌, refl, sym, ap, subst}
 use Rattle.std.specs.Prelude.{Option, Some, None}
-use Rattle.ld_history.specs.After.{after}
 use Rattle.ld_history.specs.ByTurns.{LegalFrom}
 use Rattle.ld_history.specs.Choices.{revise_event}
-use Rattle.ld_history.specs.Legal.{Entries, state}
+use Rattle.ld_history.specs.Legal.{state}
 use Rattle.ld_history.specs.Steps as steps
 use Rattle.ld_history.specs.Steps.{Taken, appended, plain}
 use Rattle.ld_history.specs.Store.{Store}
@@ -27,7 +26,7 @@ use Rattle.ld_fits.specs.Play.{Request, Revising}
 use Rattle.ld_fits.proofs.Leading.{revise_goes, stored_is_unled}
 use Rattle.ld_book.specs.Pages.{Booked, Pages, after_step, bare, entries_of, history_of}
 use Rattle.ld_moves.specs.Moving.{Finds, MovesOn}
-use Rattle.ld_moves.specs.Standing.{AfterRevise, IsFlightAt, Stands}
+use Rattle.ld_moves.specs.Standing.{AfterRevise}
 use Rattle.ld_moves.proofs.Lacking.{refused_stands, stands_one}
 use Rattle.ld_moves.proofs.Quiet.{AreQuiet, quiet_moves}
 use Rattle.ld_moves.proofs.Stepping.{after_one, as_step}

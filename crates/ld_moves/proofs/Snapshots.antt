@@ -3,7 +3,7 @@ use Rattle.std.proofs.Common.{◌≡◌, ◌∙◌, ℕ, List, [], ◌∷◌, �
 use Rattle.std.specs.List.{fold}
 use Rattle.std.specs.Map.{keys_of}
 use Rattle.ld_tree.specs.Maps.{empty}
-use Rattle.ld_tree.specs.Names.{AreInOrder, Sorted, same_sorted}
+use Rattle.ld_tree.specs.Names.{AreInOrder, same_sorted}
 use Rattle.ld_tree.proofs.Texts.{put_last}
 use Rattle.ld_ctx.specs.Stocks.{stock_of, with_document}
 use Rattle.ld_rec.specs.Outcome.{Stock}

@@ -1,6 +1,6 @@
 -- What a version has stays as the book grows.
-use Rattle.std.proofs.Common.{arith, ◌≡◌, ◌∙◌, ℕ, zero, suc, ◌≤◌, Bool, true, false, List, [], ◌∷◌, ◌++◌, refl, sym, ap, subst, append_assoc, Option, Some, None, All, eq-eqb}
-use Rattle.std.specs.Prelude.{map, take, if◌then◌else◌, ◌==◌}
+use Rattle.std.proofs.Common.{arith, ◌≡◌, ◌∙◌, ℕ, zero, suc, ◌≤◌, true, false, List, [], ◌∷◌, ◌++◌, refl, sym, ap, subst, append_assoc, Option, Some, None, eq-eqb}
+use Rattle.std.specs.Prelude.{take, if◌then◌else◌}
 use Rattle.std.specs.List.{prefix_len}
 use Rattle.std.specs.declared.cmp.Ordering.TheVariants.{Less, Equal, Greater}
 use Rattle.std.specs.Ordering.{is_eq, match_ordering}
@@ -27,7 +27,7 @@ use Rattle.ld_history.proofs.LawAlong.{legal-append, replay-append}
 use Rattle.ld_history.proofs.LawStock.{keeps_stored, placed, stock_stays, version_rises}
 use Rattle.ld_history.proofs.LawTold.{by_turns}
 use Rattle.ld_book.specs.Documents.{ArePages, BothAre, IsPage}
-use Rattle.ld_book.specs.Pages.{Pages, document_of, documented, entries_of, publishes, stock_of, with_document}
+use Rattle.ld_book.specs.Pages.{Pages, document_of, documented, entries_of, publishes, with_document}
 use Rattle.ld_book.specs.declared.page.Page.{Page}
 use Rattle.ld_book.proofs.Paging.{document_last, document_more}
 use Rattle.ld_moves.specs.Moving.{version_in}

@@ -24,7 +24,7 @@ use Rattle.ld_history.proofs.Pinning.{pin_allowed}
 use Rattle.ld_fits.specs.Play.{Stage, step}
 use Rattle.ld_book.specs.Pages.{Booked, Pages, after_step, bare, entries_of, history_of}
 use Rattle.ld_book.proofs.Saying.{ByPin, pin_says, said}
-use Rattle.ld_moves.specs.Moving.{Finds, Moves, MovesOn, place, version_in}
+use Rattle.ld_moves.specs.Moving.{Finds, MovesOn, version_in}
 use Rattle.ld_moves.specs.Standing.{HasPinned, IsOpenAt, Stands}
 use Rattle.ld_moves.specs.Stocks.{stocks}
 use Rattle.ld_moves.proofs.Taking.{kept, now, plain_moves, state_with, turns_legal}

@@ -1,19 +1,17 @@
 -- A step that a session takes at a turn moves it on.
-use Rattle.std.proofs.Common.{◌≡◌, ◌∙◌, ℕ, ◌≤◌, Bool, true, false, List, [], ◌∷◌, ◌++◌, refl, sym, ap, subst, append-nil, arith}
-use Rattle.std.specs.Prelude.{Option, Some, None, if◌then◌else◌, ◌==◌}
+use Rattle.std.proofs.Common.{◌≡◌, ◌∙◌, ℕ, ◌≤◌, Bool, true, false, List, [], ◌∷◌, ◌++◌, refl, sym, ap, subst, append-nil}
+use Rattle.std.specs.Prelude.{None, if◌then◌else◌, ◌==◌}
 use Rattle.std.proofs.lemmas.List.Elements.{All-append, All-cons, All-nil}
 use Rattle.ld_flight.specs.declared.given.Given as loader
 use Rattle.ld_history.specs.After.{after}
 use Rattle.ld_history.specs.ByTurns.{IsKept, LegalFrom, allows}
 use Rattle.ld_history.specs.ByTurns as turns
 use Rattle.ld_history.specs.Counts.{owner}
-use Rattle.ld_history.specs.Legal.{Entries, Legal, replay, state}
+use Rattle.ld_history.specs.Legal.{Legal, replay, state}
 use Rattle.ld_history.specs.Steps.{plain}
 use Rattle.ld_history.specs.Store.{Store, empty_store}
-use Rattle.ld_history.specs.declared.event.Entry.{Entry}
 use Rattle.ld_history.specs.declared.event.Event.{Event}
 use Rattle.ld_history.specs.declared.event.Event.TheVariants as event
-use Rattle.ld_history.specs.declared.event.Given.{Given}
 use Rattle.ld_history.specs.declared.limits.Limits.{Limits}
 use Rattle.ld_history.proofs.LawAlong.{legal_more, replay-append}
 use Rattle.ld_history.proofs.LawHolds.{events_counted}

@@ -10,8 +10,7 @@
 //! To be believed: `specs/Stocks.antt` (what a version of a book has, and when a book is sound), `specs/Moving.antt` (places and
 //! moves) and `specs/Standing.antt` (what the history tells of a session and of a flight). Laws of places: `stocks_stay`,
 //! `moves_add_up`, `facts_are_kept`. Of steps: `pins_move`, `lacks_move`, `answers_move`, `publishes_move`, `fails_move`,
-//! `lapses_move`, `revisions_move`, `evictions_move`,
-//! `closes_move`.
+//! `lapses_move`, `revisions_move`, `evictions_move`, `closes_move`.
 #![tactic(auto)]
 
 mod laws;
