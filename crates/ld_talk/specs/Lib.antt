@@ -1,3 +1,5 @@
 pub mod Hearing
 pub mod Judging
 pub mod Sending
+pub mod Talking
+pub mod Concluding

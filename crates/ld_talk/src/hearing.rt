@@ -13,15 +13,22 @@ use ld_items::Received;
 use ld_tree::{Iri, Raw};
 use std::alloc::Global;
 
-/// What an item asks for.
+/// What a request asks for, which stands in a history.
 #[derive(Debug, Drop)]
-pub enum Asking {
+pub enum Request {
     /// What the algorithms give for a document.
     Evaluation { op: Op, envelope: Envelope },
     /// That the stored context of this IRI is loaded anew.
     Revision(Iri),
     /// That the stored context of this IRI goes out.
     Eviction(Iri),
+}
+
+/// What an item asks for.
+#[derive(Debug, Drop)]
+pub enum Asking {
+    /// It is a request.
+    Recorded(Request),
     /// Nothing that stands in a history: it is answered so.
     Unrecorded(Outcome),
 }
@@ -45,11 +52,11 @@ fn hear_at(alloc: Global, path: Path, body: &Raw) -> Asking
         Path::Compact => evaluation(alloc, path, Op::Compact, body),
         Path::Flatten => evaluation(alloc, path, Op::Flatten, body),
         Path::Revise => match read_target(alloc, body.as_slice()) {
-            Ok(iri) => Asking::Revision(iri),
+            Ok(iri) => Asking::Recorded(Request::Revision(iri)),
             Err(refusal) => refused(alloc, path, body, &refusal),
         },
         Path::Evict => match read_target(alloc, body.as_slice()) {
-            Ok(iri) => Asking::Eviction(iri),
+            Ok(iri) => Asking::Recorded(Request::Eviction(iri)),
             Err(refusal) => refused(alloc, path, body, &refusal),
         },
     }
@@ -60,7 +67,7 @@ fn evaluation(alloc: Global, path: Path, op: Op, body: &Raw) -> Asking
     ensures { IsAskedAt path body.now (asked_of result) }
 {
     match read_envelope(alloc, op, body.as_slice()) {
-        Ok(envelope) => Asking::Evaluation { op, envelope },
+        Ok(envelope) => Asking::Recorded(Request::Evaluation { op, envelope }),
         Err(refusal) => refused(alloc, path, body, &refusal),
     }
 }

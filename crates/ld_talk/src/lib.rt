@@ -9,10 +9,14 @@
 //! (`ld_fits/specs/Asks.antt`), of outcomes and of replies (`ld_head/specs/Outcomes.antt`).
 #![tactic(auto)]
 
+mod answering;
+mod concluding;
 mod hearing;
 mod judging;
+mod requests;
 mod sending;
 
-pub use hearing::{Asking, hear};
+pub use hearing::{Asking, Request, hear};
 pub use judging::{Judged, judge};
+pub use requests::{Replied, Requests};
 pub use sending::{SendRefusal, give_up, last_marks, send};
