@@ -3,3 +3,4 @@ pub mod Judging
 pub mod Sending
 pub mod Talking
 pub mod Concluding
+pub mod Underway
