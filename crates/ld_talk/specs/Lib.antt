@@ -4,3 +4,4 @@ pub mod Sending
 pub mod Talking
 pub mod Concluding
 pub mod Underway
+pub mod Putting

@@ -15,8 +15,10 @@ mod hearing;
 mod judging;
 mod requests;
 mod sending;
+mod talking;
 
 pub use hearing::{Asking, Request, hear};
 pub use judging::{Judged, judge};
 pub use requests::{Replied, Requests};
 pub use sending::{SendRefusal, give_up, last_marks, send};
+pub use talking::talk;
