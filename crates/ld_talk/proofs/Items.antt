@@ -2,15 +2,14 @@
 use Rattle.std.proofs.Common.{◌≡◌, ◌∙◌, ℕ, List, ◌∷◌, ◌++◌, refl, sym, ap, subst}
 use Rattle.std.specs.Prelude.{Some, None}
 use Rattle.ld_edge.specs.Sides.{Outgoing}
-use Rattle.ld_fits.specs.Asks.{Asked, Heard, IsAsked, Evaluation, Revision, Eviction, Unrecorded}
+use Rattle.ld_fits.specs.Asks.{Asked, Heard, IsAsked, Unrecorded}
 use Rattle.ld_fits.specs.Play.{Stage, Idle, idle, item_text, passed}
 use Rattle.ld_head.specs.Dialogues.{Ask, Bad, Item, Marked}
 use Rattle.ld_head.specs.Outcomes.{reply}
 use Rattle.ld_head.specs.declared.outcome.Outcome.{Outcome}
 use Rattle.ld_head.specs.declared.outcome.Outcome.TheVariants as outcome
 use Rattle.ld_talk.specs.Hearing.{requested}
-use Rattle.ld_talk.specs.Talking.{Moving, Answering, IsReplied, IsSaid, IsSaidFull, IsSaidOf, IsSpoken, full_text}
-use Rattle.ld_talk.specs.Sending.{IsUnsent}
+use Rattle.ld_talk.specs.Talking.{Moving, Answering, IsReplied, IsSaid, IsSaidFull, IsSaidOf, IsSpoken}
 use Rattle.ld_talk.specs.declared.answering.Spoken.{Spoken}
 use Rattle.ld_talk.specs.declared.answering.Spoken.TheVariants as spoken
 use Rattle.ld_talk.specs.declared.hearing.Request.{Request}

@@ -1,9 +1,7 @@
 -- What goes out for an item, and how the talk goes on from it.
-use Rattle.std.proofs.Common.{◌≡◌, ◌∙◌, ◌≤◌, ℕ, Bool, true, false, List, [], ◌++◌, take, refl, sym, ap, subst, append-nil}
+use Rattle.std.proofs.Common.{◌≡◌, ◌∙◌, ◌≤◌, ℕ, Bool, true, false, List, ◌++◌, take, refl, sym, ap, subst}
 use Rattle.std.specs.Prelude.{Option, Some, None, ◌==◌, ◌||◌, if◌then◌else◌}
-use Rattle.std.specs.Io.KnownBytes.{append_known}
 use Rattle.ld_edge.specs.Faults.{Rose}
-use Rattle.ld_edge.proofs.Known.{append_known-append}
 use Rattle.ld_edge.specs.Passing.{Goes}
 use Rattle.ld_edge.specs.Sides.{Incoming, Outgoing}
 use Rattle.ld_fits.specs.Asks.{Heard}
@@ -16,7 +14,7 @@ use Rattle.ld_items.specs.declared.arrivals.Arrived.{Arrived}
 use Rattle.ld_items.specs.declared.arrivals.Next.TheVariants as next
 use Rattle.ld_items.proofs.Arriving.{same_sink, same_sink_before}
 use Rattle.ld_talk.specs.Talking.{Moving, Answering, IsSpoken, end_of_item, full_text, no_memory_text, reply_in}
-use Rattle.ld_talk.specs.Concluding.{GivesUp, EndsAs, IsConcluded, IsEndOf}
+use Rattle.ld_talk.specs.Concluding.{EndsAs, IsConcluded, IsEndOf}
 use Rattle.ld_talk.specs.Putting.{Put, Whole, Cut, Unsaid, Full, FullCut, FullUnsaid, IsPut, SinkFaults, end_put, text_put}
 use Rattle.ld_talk.specs.Sending.{IsUnsent}
 use Rattle.ld_talk.specs.Underway.{IsTalking, GoesOnOrEnds}
@@ -24,10 +22,6 @@ use Rattle.ld_talk.specs.declared.answering.Spoken.{Spoken}
 use Rattle.ld_talk.specs.declared.answering.Spoken.TheVariants as spoken
 use Rattle.ld_talk.specs.declared.sending.SendRefusal.TheVariants as refusal
 use Rattle.ld_talk.proofs.Talks.{talks_on, talked_to_item, talked_to_cut, talked_unsaid, talked_to_full, talked_full_cut, talked_full_unsaid}
-
--- one text after another
-pub goes_then : (a b c : Outgoing) (x y : List ℕ) → Goes a b x → Goes b c y → Goes a c (x ++ y)
-goes_then a b c x y p q = q ∙ ap (λ (h : Option (List ℕ)). append_known h y) p ∙ append_known-append a.held x y
 
 -- an item that closes is no failure
 by_status : (known : Bool) (status before after : ℕ) → after ≡ before → SinkFaults (Some (if known then end.Closed else end.BadHead status)) before after

@@ -1,21 +1,19 @@
 -- What an item adds to a talk, and how a talk ends.
-use Rattle.std.proofs.Common.{◌≡◌, ◌∙◌, ◌⊎◌, inl, inr, ℕ, ◌+◌, ◌<◌, ◌≤◌, Bool, true, false, List, [], ◌∷◌, ◌++◌, length, take, refl, sym, ap, subst, append_assoc, append-nil}
+use Rattle.std.proofs.Common.{◌≡◌, ◌∙◌, ◌⊎◌, inl, inr, ℕ, ◌+◌, Bool, true, false, List, [], ◌∷◌, ◌++◌, length, take, refl, sym, ap, subst, append_assoc, append-nil}
 use Rattle.std.proofs.Math.Seq.{take-append-add}
 use Rattle.std.proofs.lemmas.List.{map-append}
-use Rattle.std.specs.Prelude.{Option, Some, None, ◌==◌, ◌||◌, if◌then◌else◌, nat_lt}
+use Rattle.std.specs.Prelude.{None, ◌==◌, ◌||◌, if◌then◌else◌}
 use Rattle.ld_edge.specs.Passing.{IsReadToEnd}
 use Rattle.ld_edge.specs.Sides.{Incoming}
 use Rattle.ld_fits.specs.Asks.{Heard}
 use Rattle.ld_fits.specs.Play.{Stage, idle}
-use Rattle.ld_head.specs.Dialogues.{Front, Whole, TooLong, Unfinished, Item, Ask, Bad, Dialogue, IsDialogue, Marked, Opening, Opens, OpensAt, Stops, Shuts, GoesOn, is_due_at, opened_by, silence, front}
+use Rattle.ld_head.specs.Dialogues.{Front, Whole, TooLong, Unfinished, Item, Ask, Bad, IsDialogue, Marked, Opens, OpensAt, Stops, Shuts, GoesOn, is_due_at, opened_by, silence, front}
 use Rattle.ld_head.specs.Heads.{Accepts, Refuses}
 use Rattle.ld_head.specs.Outcomes.{reply}
 use Rattle.ld_head.specs.Replies.{interim_text, text_if}
 use Rattle.ld_head.specs.declared.dialogue.Ending.{Ending}
 use Rattle.ld_head.specs.declared.dialogue.Ending.TheVariants.{Between, Inside, Shut}
-use Rattle.ld_head.specs.declared.finding.Place.{Place}
 use Rattle.ld_head.specs.declared.finding.Place.TheVariants.{Before, BeforeCr, Within, AfterLf, AfterLfCr, Done}
-use Rattle.ld_head.specs.declared.session_end.SessionEnd.{SessionEnd}
 use Rattle.ld_head.specs.declared.session_end.SessionEnd.TheVariants as end
 use Rattle.ld_head.proofs.Unique.{speaks_unique}
 use Rattle.ld_items.specs.Saying.{HaveSaid, after}
@@ -57,7 +55,6 @@ cut_at wrote part whole n = sym (take-append-add wrote (part ++ whole) (length p
 
 module _ (before after_ through : Moving) (full : ℕ → Type 0) (trans : (p q r : Stage) → before p q → after_ q r → through p r)
     (came wrote : List ℕ) (heard : List Heard) (p : Standing) (talking : IsTalking before came wrote heard p) (more : List ℕ) (source : Incoming) where
-
   abbrev all : List ℕ
   all = came ++ more
 
@@ -86,13 +83,17 @@ module _ (before after_ through : Moving) (full : ℕ → Type 0) (trans : (p q 
     pub talked_to_fault : (went : List ℕ) (ending : Ending) → Opens p.items (p.pending ++ more) (Stops ending) → went ≡ text_if (is_due_at ending) interim_text
         → Talked through full all (wrote ++ went) source end.ReadFault
     talked_to_fault went ending opens is = record {
-      heard = heard; text = wrote; told = same;
+      heard = heard;
+      text = wrote;
+      told = same;
       ends = (ending, said_ended came (marked_in heard) p talking.said more ending opens, ap (λ l. wrote ++ l) is);
     }
 
     pub talked_to_interim : (went : List ℕ) (k : ℕ) → IsDue p.items (p.pending ++ more) → went ≡ take k interim_text → Talked through full all (wrote ++ went) source end.WriteFault
     talked_to_interim went k is cut = record {
-      heard = heard; text = wrote; told = same;
+      heard = heard;
+      text = wrote;
+      told = same;
       ends = (interim_text, inr (refl, due is), inl (length wrote + k, ap (λ l. wrote ++ l) cut ∙ sym (take-append-add wrote interim_text k)), first);
     }
 
@@ -103,7 +104,9 @@ module _ (before after_ through : Moving) (full : ℕ → Type 0) (trans : (p q 
     pub talked_out_of_memory : (went : List ℕ) (n : ℕ) → (went ≡ []) ⊎ ((went ≡ interim_text) × IsDue p.items (p.pending ++ more))
         → Talked through full all (wrote ++ (went ++ take n no_memory_text)) source end.NoMemory
     talked_out_of_memory went n is = record {
-      heard = heard; text = wrote; told = same;
+      heard = heard;
+      text = wrote;
+      told = same;
       ends = (wrote, went, inl refl, interim_in went is, (n, refl), first);
     }
 
@@ -169,13 +172,17 @@ module _ (before after_ through : Moving) (full : ℕ → Type 0) (trans : (p q 
 
       pub talked_to_cut : (n : ℕ) → Talked through full all (wrote ++ (interim ++ take n own)) source end.WriteFault
       talked_to_cut n = record {
-        heard = with_item; text = wrote ++ (interim ++ own); told = told;
+        heard = with_item;
+        text = wrote ++ (interim ++ own);
+        told = told;
         ends = ([], inl refl, inl (length wrote + (length interim + n), cut_at wrote interim own n ∙ ap (λ l. take (length wrote + (length interim + n)) l) (sym (append-nil (wrote ++ (interim ++ own))))), first_with);
       }
 
       pub talked_unsaid : (n : ℕ) → Talked through full all (wrote ++ (interim ++ take n no_memory_text)) source end.NoMemory
       talked_unsaid n = record {
-        heard = with_item; text = wrote ++ (interim ++ own); told = told;
+        heard = with_item;
+        text = wrote ++ (interim ++ own);
+        told = told;
         ends = (
           wrote ++ interim,
           [],
@@ -201,7 +208,9 @@ module _ (before after_ through : Moving) (full : ℕ → Type 0) (trans : (p q 
 
       pub talked_full_cut : (n : ℕ) → Talked through full all (wrote ++ (interim ++ take n (full_text events))) source end.WriteFault
       talked_full_cut n = record {
-        heard = heard; text = wrote; told = same none;
+        heard = heard;
+        text = wrote;
+        told = same none;
         ends = (interim, interim_is, inr (events, is, (length wrote + (length interim + n), cut_at wrote interim (full_text events) n)), first);
       }
 

@@ -1,5 +1,5 @@
 -- What goes out for an item, and what follows on it.
-use Rattle.std.specs.Prelude.{◌≡◌, ℕ, List, ◌++◌, Option, Some, None, if◌then◌else◌, take}
+use Rattle.std.specs.Prelude.{◌≡◌, ℕ, List, Option, Some, None, if◌then◌else◌, take}
 use Rattle.ld_edge.specs.Faults.{NeverFalls, Rose}
 use Rattle.ld_fits.specs.Play.{Stage}
 use Rattle.ld_head.specs.Dialogues.{Marked}

@@ -1,7 +1,7 @@
 -- How a connection is talked with: what each item's reply does, and how the talk ends.
-use Rattle.std.specs.Prelude.{◌≡◌, ◌⊎◌, ◌<◌, ℕ, true, List, [], ◌∷◌, ◌++◌, length, map, take, Option, Some, None, ◌==◌, ◌||◌, if◌then◌else◌, Bool}
+use Rattle.std.specs.Prelude.{◌≡◌, ◌⊎◌, ℕ, true, List, [], ◌∷◌, ◌++◌, map, take, Option, Some, None, ◌==◌, ◌||◌, if◌then◌else◌, Bool}
 use Rattle.ld_edge.specs.Faults.{NeverFalls, Rose}
-use Rattle.ld_edge.specs.Passing.{Goes, GoesInPart, IsReadToEnd}
+use Rattle.ld_edge.specs.Passing.{Goes, IsReadToEnd}
 use Rattle.ld_edge.specs.Sides.{Incoming, Outgoing}
 use Rattle.ld_fits.specs.Asks.{Asked, Heard}
 use Rattle.ld_fits.specs.Play.{Stage, Idle, idle, item_text}

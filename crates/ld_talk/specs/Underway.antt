@@ -1,5 +1,5 @@
 -- A talk that is under way.
-use Rattle.std.specs.Prelude.{◌≡◌, ℕ, ◌≤◌, List, [], ◌∷◌, ◌++◌, Option, Some, None}
+use Rattle.std.specs.Prelude.{ℕ, ◌≤◌, List, [], ◌∷◌, ◌++◌, Option, Some, None}
 use Rattle.ld_edge.specs.Sides.{Incoming}
 use Rattle.ld_fits.specs.Asks.{Heard}
 use Rattle.ld_head.specs.declared.session_end.SessionEnd.{SessionEnd}

@@ -97,7 +97,14 @@ fn say_reply<N: Link>(
             number,
             version,
             outcome,
-        } => say(alloc, link, buffer, Some((*number, *version)), outcome, marks),
+        } => say(
+            alloc,
+            link,
+            buffer,
+            Some((*number, *version)),
+            outcome,
+            marks,
+        ),
         Replied::Unmade => say(alloc, link, buffer, None, &Outcome::NoMemory, marks),
         Replied::HistoryFull { events } => say_full(alloc, link, buffer, *events),
     }

@@ -20,7 +20,9 @@ pub enum Replied {
     /// There was no memory to begin it. It stands in no history.
     Unmade,
     /// The history has no room for it, after so many events.
-    HistoryFull { events: u64 },
+    HistoryFull {
+        events: u64,
+    },
 }
 
 /// A session that answers the requests of a connection, one after another. Nothing else of a talk depends on it.

@@ -1,11 +1,12 @@
-use Rattle.std.proofs.Common.{ℕ, List, ◌++◌, sym, subst}
+use Rattle.std.proofs.Common.{◌++◌, sym, subst}
 use Rattle.ld_edge.specs.Passing.{Comes}
+use Rattle.ld_edge.proofs.Known.{goes_then}
 use Rattle.ld_edge.specs.Sides.{Incoming}
 use Rattle.ld_fits.specs.Play.{Stage}
 use Rattle.ld_head.specs.declared.session_end.SessionEnd.{SessionEnd}
 use Rattle.ld_talk.specs.Talking.{Talked, no_memory_text}
 use Rattle.ld_talk.specs.Underway.{GoesOnOrEnds}
-use Rattle.ld_talk.proofs.Puts.{goes_on_put, goes_then}
+use Rattle.ld_talk.proofs.Puts.{goes_on_put}
 use Rattle.ld_talk.proofs.Talks.{talked_out_of_memory, talked_to_end, talked_to_fault, talked_to_interim}
 use Rattle.ld_talk.proofs.talking.exchange.Goals as goal
 use Rattle.std.specs.Prelude.{take}
