@@ -61,10 +61,11 @@ pub(crate) fn answer<N: Link, Q: Requests>(
     alloc: Global,
     link: &mut N,
     buffer: &mut BytesMut,
+    outside: &mut Q::Outside,
     requests: Q,
     arrived: &Arrived,
 ) -> (Q, Spoken)
-    ensures spoken { IsSpoken (Q.moves requests result.0) (Q.full result.0) (marked arrived.now) (N.outgoing link.old) (N.outgoing link.new) result.1 }
+    ensures spoken { IsSpoken (Q.moves requests outside.old result.0 outside.new) (Q.full result.0) (marked arrived.now) (N.outgoing link.old) (N.outgoing link.new) result.1 }
     ensures incoming { N.incoming link.new ≡ N.incoming link.old }
 {
     let marks = arrived.marks;
@@ -74,7 +75,7 @@ pub(crate) fn answer<N: Link, Q: Requests>(
             (requests, spoken)
         }
         Asking::Recorded(request) => {
-            let (requests, replied) = requests.request(alloc, request);
+            let (requests, replied) = requests.request(alloc, outside, request);
             let spoken = say_reply(alloc, link, buffer, &replied, marks);
             (requests, spoken)
         }

@@ -27,17 +27,26 @@ pub enum Replied {
 
 /// A session that answers the requests of a connection, one after another. Nothing else of a talk depends on it.
 pub trait Requests: Sized {
-    /// From what the session was to what it is, its own entries in the history lead from one stage to another.
-    ghost moves: { Self → Self → Stage → Stage → Type 0 };
+    /// What the session works with and doesn't own, as its loader.
+    type Outside;
+
+    /// From what the session and its outside were to what they are, its own entries in the history lead from one stage to
+    /// another.
+    ghost moves: { Self → Self.Outside → Self → Self.Outside → Stage → Stage → Type 0 };
 
     /// The history has no room for one more request, after so many events.
     ghost full: { Self → ℕ → Type 0 };
 
-    ghost moves_none: { (session : Self) (stage : Stage) → moves session session stage stage };
+    ghost moves_none: { (session : Self) (outside : Self.Outside) (stage : Stage) → moves session outside session outside stage stage };
 
-    ghost moves_more: { (a b c : Self) (p q r : Stage) → moves a b p q → moves b c q r → moves a c p r };
+    ghost moves_more: { (a b c : Self) (x y z : Self.Outside) (p q r : Stage) → moves a x b y p q → moves b y c z q r → moves a x c z p r };
 
     /// Answers a request.
-    fn request(self, alloc: Global, request: Request) -> (Self, Replied)
-        ensures { IsReplied (moves self result.0) (full result.0) (requested request) result.1 };
+    fn request(
+        self,
+        alloc: Global,
+        outside: &mut Self::Outside,
+        request: Request,
+    ) -> (Self, Replied)
+        ensures { IsReplied (moves self outside.old result.0 outside.new) (full result.0) (requested request) result.1 };
 }
