@@ -1,5 +1,5 @@
 -- Answers that name no missing document but under a short IRI, over every stock.
-use Rattle.std.proofs.Common.{◌≡◌, ℕ, ◌≤◌, Bool, true, false, List, [], ◌∷◌, length, Option, Some, None, Ok, Err}
+use Rattle.std.proofs.Common.{ℕ, ◌≤◌, Bool, true, false, List, [], ◌∷◌, length, Option, Some, None, Ok, Err}
 use Rattle.std.specs.Prelude.{Result, if◌then◌else◌}
 use Rattle.ld_codes.specs.declared.code.Code.{Code}
 use Rattle.ld_codes.specs.declared.own.Own.{Own}

@@ -1,5 +1,5 @@
 -- That compaction asks for nothing but under short IRIs.
-use Rattle.std.proofs.Common.{◌≡◌, sym, subst, ℕ, Bool, true, false, cond, List, [], ◌∷◌, map, Option, Some, None, Ok, Err}
+use Rattle.std.proofs.Common.{sym, subst, ℕ, Bool, true, false, cond, List, [], ◌∷◌, map, Option, Some, None, Ok, Err}
 use Rattle.std.specs.Prelude.{Result, codes}
 use Rattle.std.specs.Map.{lookup}
 use Rattle.std.specs.BTreeMap.{is_at}
@@ -16,15 +16,14 @@ use Rattle.ld_tree.specs.declared.tree.Tree.TheViews.{roll-Tree}
 use Rattle.ld_tree.proofs.Recursion.{para-roll}
 use Rattle.ld_rec.specs.declared.stop.Stop.{Stop}
 use Rattle.ld_rec.specs.declared.stop.Stop.TheVariants as stop
-use Rattle.ld_rec.specs.Outcome.{◌>>=◌}
 use Rattle.ld_rec.specs.Records.{Context, fresh, def_of}
 use Rattle.ld_rec.specs.Words.{is_among, text_of, items_of}
 use Rattle.ld_rec.specs.Kinds.{list_of, map_of, is_list_object, is_graph_object}
 use Rattle.ld_compact.specs.Adding.{items_at}
 use Rattle.ld_compact.specs.Elements.{Way, Whole, Content, IdAlone, Place, Becomes, Item, Value, Entry, items_in, item_of, trees_of, value_at, def_at}
-use Rattle.ld_compact.specs.Compaction.{told, text_at, as_list, add_item, Node, Property, property_of, put_under, id_tree, id_rule, type_rule, index_rule, turned, unless_empty, put_rest, labelled_list, list_item, key_or_none, put_keyed, id_key, included_if_several, simple_graph, labelled_graph, whole_graph, is_simple, graph_in, graph_item, Keyed}
-use Rattle.ld_compact.specs.Compaction.{by_id, taken_type, by_id_alone, by_type, by_containers, by_value, keyed_item, node_item, item_by_kind, item_under, item_rule, empty_rule, items_rule, reverse_rule, entry_rule, node_becomes, add_type, compacted_types, in_order, with_type, with_types, typed_becomes, full_becomes, list_or_full, needed_map, value_or_map}
-use Rattle.ld_compact.specs.Compaction.{given_or_needed, map_within, reverted, map_becomes, content_of, content_becomes, alone, entry_alone, id_becomes, by_way, list_becomes, level_becomes, level_items, compaction_step, element, own_context, graph_of, top_entries, document_becomes, compaction}
+use Rattle.ld_compact.specs.Compaction.{told, text_at, as_list, add_item, Node, Property, property_of, put_under, id_tree, id_rule, type_rule, index_rule, unless_empty, put_rest, labelled_list, list_item, key_or_none, put_keyed, id_key, included_if_several, simple_graph, labelled_graph, whole_graph, is_simple, graph_in, graph_item, Keyed}
+use Rattle.ld_compact.specs.Compaction.{by_id, taken_type, by_id_alone, by_type, by_containers, by_value, keyed_item, node_item, item_by_kind, item_under, item_rule, empty_rule, items_rule, reverse_rule, entry_rule, node_becomes, add_type, compacted_types, in_order, with_type, with_types, full_becomes, list_or_full, needed_map, value_or_map}
+use Rattle.ld_compact.specs.Compaction.{given_or_needed, map_within, reverted, map_becomes, content_of, content_becomes, alone, entry_alone, by_way, list_becomes, level_becomes, level_items, compaction_step, element, own_context, graph_of, top_entries, document_becomes, compaction}
 use Rattle.ld_lacks.proofs.Short.{AsksShort, AllOf, giving, failing, when, next, each_of, each_short}
 use Rattle.ld_lacks.proofs.ShortExpansion.{with_local_short, with_scoped_short}
 

@@ -3,7 +3,6 @@ use Rattle.std.proofs.Common.{◌≡◌, ℕ, ◌≤◌, zero, suc, ◌-◌, ◌
 use Rattle.std.specs.Prelude.{nat_le, not, if◌then◌else◌, ◌&&◌, codes}
 use Rattle.std.proofs.lemmas.Bool.{leb-true}
 use Rattle.ld_iri.specs.Words.{is_iri}
-use Rattle.ld_iri.specs.Resolution.{resolved}
 use Rattle.ld_tree.specs.Maps.{find, empty}
 use Rattle.ld_tree.specs.Names.{Sorted}
 use Rattle.ld_tree.specs.Trees.{member}
@@ -14,8 +13,7 @@ use Rattle.ld_rec.specs.declared.doc.Doc.{Doc}
 use Rattle.ld_rec.specs.declared.stored.Stored.{Stored}
 use Rattle.ld_rec.specs.declared.stored.Stored.TheVariants.{Read}
 use Rattle.ld_rec.specs.Iris.{iri_of}
-use Rattle.ld_rec.specs.Outcome.{Answer}
-use Rattle.ld_rec.specs.Processing.{Ask, Again, Progress, levels, iri_limit, within_limit, anew, nullified, against, loadable, context_in, remote_ask, dereferenced, by_remote, version_in, imported_in, imported_from, by_import, import_in, relative_base, base_in, base_unless_remote, by_vocab_iri, vocab_in, default_language_in, propagate_in, protected_in, keywords_in, check_by, unless_keyword, rest_of, scoped_ask, terms_in, by_entries, by_map, is_propagated, begun, by_item, item_step, by_items, process_step, processed_in, process}
+use Rattle.ld_rec.specs.Processing.{Ask, Again, Progress, levels, iri_limit, within_limit, anew, nullified, against, loadable, context_in, remote_ask, dereferenced, by_remote, version_in, imported_in, imported_from, by_import, import_in, relative_base, base_in, base_unless_remote, by_vocab_iri, vocab_in, default_language_in, propagate_in, protected_in, keywords_in, check_by, unless_keyword, rest_of, scoped_ask, terms_in, by_entries, by_map, is_propagated, begun, by_item, item_step, process_step, processed_in, process}
 use Rattle.ld_rec.specs.Records.{Context, has_protected}
 use Rattle.ld_rec.specs.Terms.{Made, Rest}
 use Rattle.ld_rec.specs.Words.{items_of, opened}

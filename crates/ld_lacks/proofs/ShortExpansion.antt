@@ -1,5 +1,5 @@
 -- That expansion asks for nothing but under short IRIs.
-use Rattle.std.proofs.Common.{◌≡◌, ap, sym, subst, ℕ, Bool, true, false, List, [], ◌∷◌, map, Option, Some, None}
+use Rattle.std.proofs.Common.{sym, subst, ℕ, Bool, true, false, List, [], ◌∷◌, map, Option, Some, None}
 use Rattle.std.specs.Prelude.{◌&&◌, not, codes}
 use Rattle.std.specs.Map.{keys_of}
 use Rattle.ld_codes.specs.declared.keyword.Keyword.{Keyword}
@@ -17,13 +17,12 @@ use Rattle.ld_rec.specs.declared.def.Containers.{Containers}
 use Rattle.ld_rec.specs.declared.def.Def.{Def}
 use Rattle.ld_rec.specs.declared.way.Way.{Way}
 use Rattle.ld_rec.specs.declared.way.Way.TheVariants.{Plain, FromMap, AsMap}
-use Rattle.ld_rec.specs.Outcome.{◌>>=◌}
 use Rattle.ld_rec.specs.Records.{Context, def_of}
 use Rattle.ld_rec.specs.Words.{has, text_of, items_of}
 use Rattle.ld_rec.specs.Kinds.{is_null, is_text, entries_of}
-use Rattle.ld_rec.specs.Places.{Place, Becomes, Element, Entry, trees_of, held_by, property_def, containers_of, with_local, with_property_scoped, with_type_scoped, with_scoped, ask_for, name_iri}
-use Rattle.ld_rec.specs.Expansion.{Node, reverse_map_in, add_subjects, add_id, add_types, add_graph, included, add_included, add_value, add_language, add_index, add_list, add_set, add_forward, add_backward, add_reversed, add_reverses, by_keyword, is_in_reverse, collides, add_keyword, language_list, property_value, map_or_value, add_property, add_unless_null, graphed, listed, by_property, keyword_of, by_iri, by_expanded, by_entry}
-use Rattle.ld_rec.specs.Expansion.{is_mixed, is_json_literal, value_object, is_typed_well, plain_value, set_or_list, object_of, listed_types, ended, reverted, with_own, sorted_texts, with_type, with_types_of, with_types, is_json, input_type, map_context, with_key_type, add_key, keyed_becomes, scalar_becomes, add_item, list_becomes, node_becomes, typed_becomes, map_becomes, map_by_way, expansion_step, element_becomes, top, expansion}
+use Rattle.ld_rec.specs.Places.{Place, Becomes, Element, Entry, trees_of, held_by, property_def, containers_of, with_local, with_scoped, ask_for, name_iri}
+use Rattle.ld_rec.specs.Expansion.{Node, reverse_map_in, add_subjects, add_id, add_types, included, add_value, add_language, add_index, add_list, add_forward, add_backward, add_reversed, add_reverses, by_keyword, is_in_reverse, collides, add_keyword, language_list, map_or_value, add_unless_null, by_property, keyword_of, by_iri, by_expanded, by_entry}
+use Rattle.ld_rec.specs.Expansion.{is_mixed, is_json_literal, value_object, is_typed_well, plain_value, set_or_list, object_of, listed_types, ended, reverted, sorted_texts, with_type, with_types_of, with_types, is_json, input_type, map_context, with_key_type, add_key, keyed_becomes, scalar_becomes, add_item, list_becomes, typed_becomes, map_becomes, map_by_way, expansion_step, element_becomes, top, expansion}
 use Rattle.ld_lacks.proofs.Short.{AsksShort, AllOf, giving, failing, declining, when, next, each_of, each_short}
 use Rattle.ld_lacks.proofs.ShortContexts.{process_short}
 

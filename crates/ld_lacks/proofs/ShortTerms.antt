@@ -1,5 +1,5 @@
 -- That defining terms asks for nothing but under short IRIs, where scoped contexts do.
-use Rattle.std.proofs.Common.{ℕ, zero, suc, Bool, true, false, List, [], ◌∷◌, Option, Some, None}
+use Rattle.std.proofs.Common.{ℕ, zero, suc, Bool, true, false, List, Option, Some, None}
 use Rattle.std.specs.Prelude.{◌&&◌, ◌||◌, not, length, codes}
 use Rattle.std.specs.List.{list_all}
 use Rattle.std.specs.Str.{bytes_eq}
@@ -11,11 +11,10 @@ use Rattle.ld_tree.specs.declared.tree.Tree.TheOpen.{Tree-F}
 use Rattle.ld_rec.specs.declared.def.Containers.{Containers}
 use Rattle.ld_rec.specs.declared.def.Def.{Def}
 use Rattle.ld_rec.specs.Iris.{parts, is_keyword_mapping}
-use Rattle.ld_rec.specs.Outcome.{◌>>=◌}
 use Rattle.ld_rec.specs.Records.{Context, def_of, new_def}
 use Rattle.ld_rec.specs.Words.{is_keyword, is_among, is_iri_or_blank, opened, text_of}
-use Rattle.ld_rec.specs.Terms.{Made, Rest, Draft, Check, Define, Mapped, marked, first_if, first, first_prefix, first_all, kept_or, finished, prefix_in, language_in, scoped_in, ended, typed_for_types, has_colon_or_slash, if_typed, with_containers, container_names, containers_of, is_container_mapping, containers_named, container_texts, containers_in, mapped, meaning_in, by_vocab, by_meaning, by_term, by_own_parts, if_means, must_mean, with_iri, by_iri, some_draft, by_text, by_id_value, by_id}
-use Rattle.ld_rec.specs.Terms.{mapped_or_ignored, forward, reverse_container, reversed, reversed_to, backward_to, backward, either_way, with_type, type_in, protected_in, drafted, only_id, by_value, is_type_definition, begun, begin, by_name, by_entry, by_table, define_step, nested, defined}
+use Rattle.ld_rec.specs.Terms.{Made, Rest, Draft, Check, Define, Mapped, marked, first_if, first, first_prefix, first_all, kept_or, finished, prefix_in, language_in, scoped_in, ended, typed_for_types, has_colon_or_slash, if_typed, with_containers, container_names, containers_of, is_container_mapping, containers_named, container_texts, containers_in, meaning_in, by_vocab, by_meaning, by_term, by_own_parts, if_means, must_mean, with_iri, by_iri, by_text, by_id_value, by_id}
+use Rattle.ld_rec.specs.Terms.{mapped_or_ignored, reverse_container, reversed, reversed_to, backward_to, either_way, with_type, type_in, protected_in, drafted, only_id, by_value, is_type_definition, begun, begin, by_name, by_entry, by_table, define_step, nested, defined}
 use Rattle.ld_lacks.proofs.Short.{AsksShort, giving, failing, declining, when, scoping, next}
 
 -- ---- what asks for nothing

@@ -12,7 +12,7 @@ pub fn missing_is_lacked()
     ensures { (stock : Stock) (op : Op) (envelope : Envelope) (iri : List ℕ) → answered stock op envelope ≡ Err (stop.Missing iri) → find stock iri ≡ None }
 {}
 
-/// A document that is named as missing has an IRI of no more than 2048 bytes: no longer one is asked for.
+/// A document that is named as missing has an IRI of no more than 2048 bytes: none longer is asked for.
 pub fn missing_is_short()
     ensures { (stock : Stock) (op : Op) (envelope : Envelope) (iri : List ℕ) → answered stock op envelope ≡ Err (stop.Missing iri) → length iri ≤ 2048 }
 {}
