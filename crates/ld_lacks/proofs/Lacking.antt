@@ -1,5 +1,5 @@
 -- A document that an answer names as missing isn't in the stock: it is the last one that was asked for.
-use Rattle.std.proofs.Common.{◌≡◌, ℕ, Bool, List, refl, sym, ◌∙◌, ap}
+use Rattle.std.proofs.Common.{◌≡◌, ℕ, Bool, List, refl, ◌∙◌}
 use Rattle.std.specs.Prelude.{Option, None, Result, Ok, Err}
 use Rattle.ld_codes.specs.declared.code.Code.{Code}
 use Rattle.ld_compact.specs.Compaction.{compaction}
