@@ -3,3 +3,4 @@ pub mod Owning
 pub mod Leaving
 pub mod Allowing
 pub mod Pinning
+pub mod Wanting

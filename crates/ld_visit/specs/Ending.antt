@@ -1,6 +1,6 @@
 -- When a session may pin, and how its request may be answered, by what it has seen. It stays so until its next turn.
-use Rattle.std.specs.Prelude.{◌≡◌, ◌⊎◌, ℕ, List, Some, false}
-use Rattle.ld_history.specs.Legal.{state}
+use Rattle.std.specs.Prelude.{◌≡◌, ◌⊎◌, ◌≤◌, ℕ, List, length, Some, false}
+use Rattle.ld_history.specs.Legal.{is_in_stock, state}
 use Rattle.ld_history.specs.Rules.{end_of}
 use Rattle.ld_history.specs.Words.{is_under_way}
 use Rattle.ld_history.specs.declared.event.How.{How}
@@ -9,7 +9,8 @@ use Rattle.ld_history.specs.declared.session.End.{End}
 use Rattle.ld_history.specs.declared.session.End.TheVariants as end
 use Rattle.ld_history.specs.declared.session.Last.TheVariants as last
 use Rattle.ld_book.specs.Pages.{Pages, entries_of}
-use Rattle.ld_moves.specs.Standing.{Stands}
+use Rattle.ld_moves.specs.Standing.{HasPinned, Stands}
+use Rattle.ld_moves.specs.Moving.{version_in}
 
 -- the flight ended so
 abbrev pub Ended : Pages → ℕ → End → Type 0
@@ -32,6 +33,15 @@ pub record HasCome (pages : Pages) (session : ℕ) : Type 0 where
 -- no request is under way, or the context that it lacked is there
 abbrev pub MayPin : Pages → ℕ → Type 0
 MayPin pages session = Stands pages session last.Idle ⊎ (Stands pages session last.Found ⊎ HasCome pages session)
+
+-- the session has pinned a version without this IRI, which has at most 2,048 bytes
+pub record MayLack (pages : Pages) (session : ℕ) (iri : List ℕ) : Type 0 where
+  pub request : ℕ
+  pub version : ℕ
+  pub pinned : HasPinned pages session request version
+  pub current : version ≤ version_in pages
+  pub without : is_in_stock (entries_of pages) iri version ≡ false
+  pub short : length iri ≤ 2048
 
 -- it waited for a flight, which is over
 pub record HasWaited (pages : Pages) (session : ℕ) : Type 0 where
