@@ -1,0 +1,4 @@
+pub mod Visits
+pub mod Ending
+pub mod Taking
+pub mod Turns
