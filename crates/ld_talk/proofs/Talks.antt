@@ -71,7 +71,7 @@ module _ (before after_ through : Moving) (full : ℕ → Type 0) (trans : (p q 
     same = record { moved = λ items. trans (idle (heard ++ items) []) (idle items wrote) (idle items wrote) (talking.told.moved items) (none (idle items wrote)) }
 
     by_ending : (went : List ℕ) (ending : Ending) → Opens p.items (p.pending ++ more) (Stops ending) → went ≡ text_if (is_due_at ending) interim_text → IsReadToEnd source
-        → EndsSo through full all (wrote ++ went) source heard wrote (end_of_ending ending)
+        → EndsSo full all (wrote ++ went) source heard wrote (end_of_ending ending)
     by_ending went Between opens is read = (ap (λ l. wrote ++ l) is ∙ append-nil wrote, inl (said_ended came (marked_in heard) p talking.said more Between opens, read))
     by_ending went (Inside interim) opens is read = (interim, said_ended came (marked_in heard) p talking.said more (Inside interim) opens, read, ap (λ l. wrote ++ l) is)
     by_ending went Shut opens is read = absurd (never_shut p.items (front (p.pending ++ more)) opens)
@@ -158,12 +158,12 @@ module _ (before after_ through : Moving) (full : ℕ → Type 0) (trans : (p q 
       first_with = first_by a.marks.closes refl
 
       by_status : (status : ℕ) (known : Bool) → a.marks.closes ≡ true → end_of_item (marked a).item ≡ (if known then end.Closed else end.BadHead status)
-          → EndsSo through full all (wrote ++ (interim ++ own)) source with_item (wrote ++ (interim ++ own)) (if known then end.Closed else end.BadHead status)
+          → EndsSo full all (wrote ++ (interim ++ own)) source with_item (wrote ++ (interim ++ own)) (if known then end.Closed else end.BadHead status)
       by_status status true closes is = (refl, inr (shut closes, (heard, x.heard, refl, ap (λ (m : Marked). end_of_item m.item) x.is ∙ is)))
       by_status status false closes is = (refl, shut closes, (heard, x.heard, refl, ap (λ (m : Marked). end_of_item m.item) x.is ∙ is))
 
       by_item : (item : Item) → (marked a).item ≡ item → a.marks.closes ≡ true
-          → EndsSo through full all (wrote ++ (interim ++ own)) source with_item (wrote ++ (interim ++ own)) (end_of_item item)
+          → EndsSo full all (wrote ++ (interim ++ own)) source with_item (wrote ++ (interim ++ own)) (end_of_item item)
       by_item (Ask path body) is closes = (refl, inr (shut closes, (heard, x.heard, refl, ap (λ (m : Marked). end_of_item m.item) x.is ∙ ap end_of_item is)))
       by_item (Bad status) is closes = by_status status ((status == 404) || (status == 405)) closes (ap end_of_item is)
 

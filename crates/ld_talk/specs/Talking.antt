@@ -139,20 +139,20 @@ abbrev pub IsShutBy : List Heard → SessionEnd → Type 0
 IsShutBy heard e = (before : List Heard) × (h : Heard) × (heard ≡ before ++ h ∷ []) × (end_of_item h.marked.item ≡ e)
 
 -- The talk ended so: these bytes came and went.
-abbrev pub EndsSo : Moving → (full : ℕ → Type 0) → (came went : List ℕ) → Incoming → List Heard → (text : List ℕ) → SessionEnd → Type 0
-EndsSo moves full came went source heard text end.Closed =
+abbrev pub EndsSo : (full : ℕ → Type 0) → (came went : List ℕ) → Incoming → List Heard → (text : List ℕ) → SessionEnd → Type 0
+EndsSo full came went source heard text end.Closed =
     (went ≡ text) × ((SaysAll came heard Between × IsReadToEnd source) ⊎ (SaysAll came heard Shut × IsShutBy heard end.Closed))
-EndsSo moves full came went source heard text end.Truncated =
+EndsSo full came went source heard text end.Truncated =
     (interim : Bool) × SaysAll came heard (Inside interim) × IsReadToEnd source × (went ≡ text ++ text_if interim interim_text)
-EndsSo moves full came went source heard text (end.BadHead status) = (went ≡ text) × SaysAll came heard Shut × IsShutBy heard (end.BadHead status)
-EndsSo moves full came went source heard text end.ReadFault =
+EndsSo full came went source heard text (end.BadHead status) = (went ≡ text) × SaysAll came heard Shut × IsShutBy heard (end.BadHead status)
+EndsSo full came went source heard text end.ReadFault =
     (ending : Ending) × SaysAll came heard ending × (went ≡ text ++ text_if (is_due_at ending) interim_text)
-EndsSo moves full came went source heard text end.WriteFault =
+EndsSo full came went source heard text end.WriteFault =
     (interim : List ℕ) × IsInterim came heard interim
     × (IsFront went (text ++ interim) ⊎ ((events : ℕ) × full events × IsFront went (text ++ (interim ++ full_text events)))) × SaysFirst came heard
-EndsSo moves full came went source heard text (end.HistoryFull events) =
+EndsSo full came went source heard text (end.HistoryFull events) =
     full events × ((interim : List ℕ) × IsInterim came heard interim × (went ≡ text ++ (interim ++ full_text events))) × SaysFirst came heard
-EndsSo moves full came went source heard text end.NoMemory =
+EndsSo full came went source heard text end.NoMemory =
     (base interim : List ℕ) × IsBase heard base text × IsInterim came heard interim
     × ((n : ℕ) × (went ≡ base ++ (interim ++ take n no_memory_text))) × SaysFirst came heard
 
@@ -160,7 +160,7 @@ pub record Talked (moves : Moving) (full : ℕ → Type 0) (came went : List ℕ
   pub heard : List Heard
   pub text : List ℕ
   pub told : Told moves heard text
-  pub ends : EndsSo moves full came went source heard text e
+  pub ends : EndsSo full came went source heard text e
 
 -- which side's count of failures rose
 abbrev pub Faults : SessionEnd → (source source' sink sink' : ℕ) → Type 0
