@@ -3,6 +3,7 @@ use Rattle.std.proofs.Common.{◌≡◌, ◌∙◌, ◌⊎◌, inl, inr, ℕ, �
 use Rattle.std.specs.Prelude.{Option, Some, None, is_some}
 use Rattle.std.specs.Option.{option_map}
 use Rattle.std.specs.Ordering.{is_eq}
+use mathlib.Core.List.{IsPrefix}
 use Rattle.ld_history.specs.After.{after, after_event, ended_as, with_flight}
 use Rattle.ld_history.specs.ByTurns.{allows, LegalFrom}
 use Rattle.ld_history.specs.Legal.{Entries, Legal, is_in_stock, replay, state}
@@ -110,9 +111,17 @@ module _ (limits : Limits) (number : ℕ) (f : Flight) (over : is_under_way f.en
   kept_from store [] h is = is
   kept_from store (entry ∷ entries) h is = kept_from (after store entry) entries h.1 (kept_event store entry.given entry.event h.0 is)
 
+replayed_on : (front later : Pages) (p : IsPrefix front later) → state (entries_of later) ≡ replay (state (entries_of front)) (entries_of p.0)
+replayed_on front later p = sym (ap (λ pages. state (entries_of pages)) p.1) ∙ ap state (entries_on front p.0) ∙ replay-append empty_store (entries_of front) (entries_of p.0)
+
+pub of_stays : (front later : Pages) → IsPrefix front later → (number : ℕ) (iri : List ℕ) → IsOf front number iri → IsOf later number iri
+of_stays front later p number iri h =
+    let there = there_from number iri (state (entries_of front)) (entries_of p.0) (h.flight, h.is, h.iri_is) in
+    record { flight = there.0; is = ap (λ (s : Store). flight_at s.flights number) (replayed_on front later p) ∙ there.1; iri_is = there.2 }
+
 module _ (session : ℕ) (limits : Limits) (front : Pages) (found : Booked) (f : Finds session limits front found) where
   replayed : state (entries_of found.pages) ≡ replay (state (entries_of front)) (entries_of f.grows.0)
-  replayed = sym (ap (λ pages. state (entries_of pages)) f.grows.1) ∙ ap state (entries_on front f.grows.0) ∙ replay-append empty_store (entries_of front) (entries_of f.grows.0)
+  replayed = replayed_on front found.pages f.grows
 
   legal_parts : LegalFrom limits (state (entries_of front)) (entries_of f.grows.0)
   legal_parts =
@@ -124,11 +133,6 @@ module _ (session : ℕ) (limits : Limits) (front : Pages) (found : Booked) (f :
 
   pub led_found : (number : ℕ) (flight : Flight) → flight.session ≡ session → IsFlightAt front number flight → IsFlightAt found.pages number flight
   led_found number flight led is = flight_is_kept session number flight (entries_of front) (entries_of found.pages) led f.quiet is
-
-  pub of_found : (number : ℕ) (iri : List ℕ) → IsOf front number iri → IsOf found.pages number iri
-  of_found number iri h =
-      let there = there_from number iri (state (entries_of front)) (entries_of f.grows.0) (h.flight, h.is, h.iri_is) in
-      record { flight = there.0; is = ap (λ (s : Store). flight_at s.flights number) replayed ∙ there.1; iri_is = there.2 }
 
   pub ended_found : (number : ℕ) (how : End) → is_under_way how ≡ false → end_of (state (entries_of front)) number ≡ Some how → end_of (state (entries_of found.pages)) number ≡ Some how
   ended_found number how over is = go (flight_at (state (entries_of front)).flights number) refl is

@@ -1,6 +1,6 @@
 -- What a version has stays as the book grows.
-use Rattle.std.proofs.Common.{arith, ◌≡◌, ◌∙◌, ℕ, zero, suc, ◌≤◌, true, false, List, [], ◌∷◌, ◌++◌, refl, sym, ap, subst, append_assoc, Option, Some, None, eq-eqb}
-use Rattle.std.specs.Prelude.{take, if◌then◌else◌}
+use Rattle.std.proofs.Common.{arith, ◌≡◌, ◌∙◌, ℕ, zero, suc, ◌≤◌, Bool, true, false, List, [], ◌∷◌, ◌++◌, refl, sym, ap, subst, append_assoc, Option, Some, None, eq-eqb}
+use Rattle.std.specs.Prelude.{is_some, take, if◌then◌else◌}
 use Rattle.std.specs.List.{prefix_len}
 use Rattle.std.specs.declared.cmp.Ordering.TheVariants.{Less, Equal, Greater}
 use Rattle.std.specs.Ordering.{is_eq, match_ordering}
@@ -12,9 +12,9 @@ use Rattle.ld_tree.specs.Names.{name_cmp}
 use Rattle.ld_ctx.specs.Stocks as contexts
 use Rattle.ld_rec.specs.declared.doc.Doc.{Doc}
 use Rattle.ld_history.specs.After.{after, answered_by, put_iri, take_iri, with_flight}
-use Rattle.ld_history.specs.Legal.{Entries, Legal, is_by, replay, state, stock}
+use Rattle.ld_history.specs.Legal.{Entries, Legal, is_by, is_in_stock, replay, state, stock}
 use Rattle.ld_history.specs.Store.{Store, empty_store}
-use Rattle.ld_history.specs.Words.{flight_at}
+use Rattle.ld_history.specs.Words.{at_iri, flight_at}
 use Rattle.ld_history.specs.declared.event.Entry.{Entry}
 use Rattle.ld_history.specs.declared.event.Event.{Event}
 use Rattle.ld_history.specs.declared.event.Event.TheVariants as event
@@ -27,7 +27,7 @@ use Rattle.ld_history.proofs.LawAlong.{legal-append, replay-append}
 use Rattle.ld_history.proofs.LawStock.{keeps_stored, placed, stock_stays, version_rises}
 use Rattle.ld_history.proofs.LawTold.{by_turns}
 use Rattle.ld_book.specs.Documents.{ArePages, BothAre, IsPage}
-use Rattle.ld_book.specs.Pages.{Pages, document_of, documented, entries_of, publishes, with_document}
+use Rattle.ld_book.specs.Pages.{Pages, document_of, documented, entries_of, publishes, stock_of, with_document}
 use Rattle.ld_book.specs.declared.page.Page.{Page}
 use Rattle.ld_book.proofs.Paging.{document_last, document_more}
 use Rattle.ld_moves.specs.Moving.{version_in}
@@ -133,6 +133,21 @@ has_stock pages right version =
     (has_more (take n pages) rest.0 (stock (entries_of pages) version)
     (subst (λ (entries : Entries). Has (take n pages) (placed (state entries).stored)) (sym (take_entries n pages))
     (has_all [] (take n pages) empty_store (All-nil IsPage) (All-take IsPage n pages right) tt)))
+
+-- and so an IRI without a document isn't in the stock
+lacked_among : (pages : Pages) (es : List (List ℕ × ℕ)) → Has pages es → (iri : List ℕ) → at_iri (documented pages es) iri ≡ None → is_some (at_iri es iri) ≡ false
+lacked_among pages [] h iri none = refl
+lacked_among pages (e ∷ es) h iri none =
+    step (λ p. lacked_among pages es h.1 iri p) (is_eq (name_cmp iri e.0)) (ap (λ (doc : Option Doc). at_iri (with_document e.0 doc ++ documented pages es) iri) (sym h.0.1) ∙ none)
+  where
+    step : (at_iri (documented pages es) iri ≡ None → is_some (at_iri es iri) ≡ false) → (b : Bool) → (if b then Some h.0.0 else at_iri (documented pages es) iri) ≡ None
+        → is_some (if b then Some e.1 else at_iri es iri) ≡ false
+    step rest true p = cc
+    step rest false p = rest p
+
+pub lacked_in_stock : (pages : Pages) (version : ℕ) (iri : List ℕ) → ArePages pages → at_iri (stock_of pages version) iri ≡ None → is_in_stock (entries_of pages) iri version ≡ false
+unfolding is_in_stock
+lacked_in_stock pages version iri right none = lacked_among pages (stock (entries_of pages) version) (has_stock pages right version) iri none
 
 documents_stay : (pages more : Pages) (es : List (List ℕ × ℕ)) → Has pages es → documented (pages ++ more) es ≡ documented pages es
 documents_stay pages more [] h = refl

@@ -1,6 +1,7 @@
 //! What the definitions say, law by law. The function that carries a law does nothing.
-ghost use Rattle.std.specs.Prelude.{◌≡◌, ◌≤◌, ℕ, List, Some, false};
+ghost use Rattle.std.specs.Prelude.{◌≡◌, ◌≤◌, ℕ, List, Some, None, false};
 ghost use mathlib.Core.List.{IsPrefix};
+ghost use Rattle.ld_book.specs.Documents.{ArePages};
 ghost use Rattle.ld_book.specs.Pages.{Booked, Pages, entries_of, stock_of};
 ghost use Rattle.ld_fits.specs.Play.{Stage};
 ghost use Rattle.ld_flight.specs.declared.given.Given as loader;
@@ -8,7 +9,7 @@ ghost use Rattle.ld_history.specs.declared.limits.Limits.{Limits};
 ghost use Rattle.ld_store.specs.Snapshots.{Shot, stock_at};
 ghost use Rattle.ld_history.specs.Legal.{is_in_stock, state};
 ghost use Rattle.ld_history.specs.Rules.{end_of};
-ghost use Rattle.ld_history.specs.Words.{is_under_way};
+ghost use Rattle.ld_history.specs.Words.{at_iri, is_under_way};
 ghost use Rattle.ld_history.specs.declared.session.End.{End};
 ghost use Rattle.ld_history.specs.declared.session.Flight.{Flight};
 ghost use Rattle.ld_history.specs.declared.session.Session.{Session};
@@ -16,10 +17,12 @@ ghost use Rattle.ld_moves.specs.Standing.{IsFlightAt, IsOf, IsOpenAt};
 ghost use Rattle.ld_moves.specs.Moving.{Finds, Moves, Place, place, version_in};
 ghost use Rattle.ld_moves.specs.Stocks.{IsSound, stocks};
 
-/// What a version has stays as the book grows, and the version never falls. A snapshot with a version's documents is its stock.
+/// What a version has stays as the book grows, and the version never falls. Each IRI in a version's stock has its document, so that
+/// one without a document isn't there. A snapshot with a version's documents is its stock.
 pub fn stocks_stay()
     ensures stay { (limits : Limits) (front later : Pages) (version : ℕ) → IsSound limits later → IsPrefix front later → version ≤ version_in front → stocks later version ≡ stocks front version }
     ensures rise { (limits : Limits) (front later : Pages) → IsSound limits later → IsPrefix front later → version_in front ≤ version_in later }
+    ensures lacked { (pages : Pages) (version : ℕ) (iri : List ℕ) → ArePages pages → at_iri (stock_of pages version) iri ≡ None → is_in_stock (entries_of pages) iri version ≡ false }
     ensures snapshot { (shot : Shot) (pages : Pages) (version : ℕ) → (stock_at shot).0 ≡ stock_of pages version → stock_at shot ≡ stocks pages version }
 {}
 
@@ -39,7 +42,7 @@ pub fn facts_are_kept()
         → flight.session ≡ session → IsFlightAt front number flight → IsFlightAt found.pages number flight }
     ensures ended { (session : ℕ) (limits : Limits) (front : Pages) (found : Booked) (number : ℕ) (how : End) → Finds session limits front found
         → is_under_way how ≡ false → end_of (state (entries_of front)) number ≡ Some how → end_of (state (entries_of found.pages)) number ≡ Some how }
-    ensures there { (session : ℕ) (limits : Limits) (front : Pages) (found : Booked) (number : ℕ) (iri : List ℕ) → Finds session limits front found → IsOf front number iri → IsOf found.pages number iri }
+    ensures there { (front later : Pages) (number : ℕ) (iri : List ℕ) → IsPrefix front later → IsOf front number iri → IsOf later number iri }
     ensures stock { (session : ℕ) (limits : Limits) (front : Pages) (found : Booked) (iri : List ℕ) (version : ℕ) → Finds session limits front found → version ≤ version_in front
         → is_in_stock (entries_of found.pages) iri version ≡ is_in_stock (entries_of front) iri version }
 {}

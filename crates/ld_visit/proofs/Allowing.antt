@@ -32,7 +32,7 @@ not_leading (Some g) h rule e over = let same : g.end ≡ h = cc in ap (λ b. b 
 all_four : (a b c d : Bool) → a ≡ true → b ≡ true → c ≡ false → d ≡ true → (a && b && not c && d) ≡ true
 all_four a b c d p q r s = rw (p, q, r, s) refl
 
-taken_where : {A : Type 0} (b : Bool) (t : steps.Taken A) → b ≡ true → is_some (steps.where_ b t) ≡ true
+pub taken_where : {A : Type 0} (b : Bool) (t : steps.Taken A) → b ≡ true → is_some (steps.where_ b t) ≡ true
 taken_where true t h = refl
 taken_where false t h = cc
 

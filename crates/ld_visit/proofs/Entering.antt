@@ -28,6 +28,13 @@ pub entries_back : (lines : Lines) → entries_in lines ≡ entries_of (pages_in
 entries_back [] = refl
 entries_back (l ∷ ls) = ap (λ (es : Entries). l.page.entry ∷ es) (entries_back ls)
 
+-- the entries that a book tells, and how many they are
+pub entries_told : (book : Booked) → entries_in (lines_of book) ≡ entries_of book.pages
+entries_told book = entries_back (lines_of book) ∙ ap entries_of (pages_back book.limits book.pages)
+
+pub told_count : (book : Booked) → length (entries_of book.pages) ≡ length (lines_of book)
+told_count book = sym (ap length (entries_told book)) ∙ length-map (lines_of book) (λ (l : Line). l.page.entry)
+
 -- a book in which a session was opened tells its limits
 pub limits_back : (limits : Limits) (pages : Pages) (session seat : ℕ) → opened_in (entries_of pages) session ≡ Some seat → limits_in (ruled limits pages) ≡ limits
 limits_back limits [] session seat h = cc
@@ -52,13 +59,10 @@ module _ (session number : ℕ) (a : Lines) (v : Booked) (opened : opened_in (en
   opened_at = subst (λ (es : Entries). opened_in es session ≡ Some number) entries (opened_stays (entries_of (pages_in a)) (entries_of (pages_in grows.0)) session number opened)
 
   seat_here : (i : ℕ) → seat_of (lines_of v) i ≡ seats.seat_of (entries_of v.pages) i
-  seat_here i = ap (λ (es : Entries). seats.seat_of es i) (entries_back (lines_of v) ∙ ap entries_of (pages_back v.limits v.pages))
+  seat_here i = ap (λ (es : Entries). seats.seat_of es i) (entries_told v)
 
   front_count : length (entries_of (pages_in a)) ≡ length a
   front_count = length-map (pages_in a) (λ (p : Page). p.entry) ∙ length-map a (λ (l : Line). l.page)
-
-  later_count : length (entries_of v.pages) ≡ length (lines_of v)
-  later_count = length-map v.pages (λ (p : Page). p.entry) ∙ sym (length-map v.pages (λ (p : Page). record { limits = v.limits; page = p }))
 
   pub finds_at : ((i : ℕ) → length a ≤ i → i < length (lines_of v) → seat_of (lines_of v) i ≢ Some number) → AreWithin v.limits → Legal v.limits (entries_of v.pages) → ArePages v.pages
       → Finds session (limits_in a) (pages_in a) v
@@ -66,7 +70,7 @@ module _ (session number : ℕ) (a : Lines) (v : Booked) (opened : opened_in (en
     limits_are = limits;
     grows = (pages_in grows.0, pages);
     quiet = quiet_adds session number (entries_of (pages_in a)) (entries_of v.pages) opened (entries_of (pages_in grows.0), entries)
-        (λ i le lt is. quiet i (omega (arith, le, front_count)) (omega (arith, lt, later_count)) (seat_here i ∙ is));
+        (λ i le lt is. quiet i (omega (arith, le, front_count)) (omega (arith, lt, told_count v)) (seat_here i ∙ is));
     sound = subst (λ (l : Limits). IsSound l v.pages) limits (record { within = within; legal = legal; documents = documents });
   }
 

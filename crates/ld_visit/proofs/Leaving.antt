@@ -1,6 +1,6 @@
 -- A turn that adds a session's own entries may be left, and the visit goes on from there.
 use Rattle.std.proofs.Common.{◌≡◌, ◌∙◌, ℕ, [], ◌++◌, length, refl, sym, ap, subst, arith, append-nil, Some, Option}
-use Rattle.std.proofs.lemmas.List.{map-append, length-map}
+use Rattle.std.proofs.lemmas.List.{map-append}
 use mathlib.Core.List.{IsPrefix}
 use Rattle.ld_turn.specs.History.{IsOwnFrom}
 use Rattle.ld_turn.specs.Known.{Known, Turning}
@@ -20,7 +20,7 @@ use Rattle.ld_moves.proofs.Quiet.{entries_bare}
 use Rattle.ld_moves.proofs.Staying.{entries_on}
 use Rattle.ld_visit.specs.Turns.{Adding, AreOwn, Enters, Leaves}
 use Rattle.ld_visit.specs.Visits.{Took, Visiting, limits_in, pages_in}
-use Rattle.ld_visit.proofs.Entering.{entries_back, limits_back, pages_back, visiting}
+use Rattle.ld_visit.proofs.Entering.{entries_told, limits_back, pages_back, told_count, visiting}
 use Rattle.ld_visit.proofs.Owning.{Own, own_seats}
 
 module _ (session : ℕ) (turn : Turning Booked Line) (h : Adding session turn) where
@@ -40,15 +40,13 @@ module _ (session : ℕ) (turn : Turning Booked Line) (h : Adding session turn) 
   adding_opened = subst (λ (es : Entries). opened_in es session ≡ Some turn.seat.number) entries_grow (opened_stays (entries_of h.found.pages) (entries_of h.since) session turn.seat.number h.opened)
 
   seat_here : (i : ℕ) → seats.seat_of (entries_of h.found.pages ++ entries_of h.since) i ≡ seat_of (lines_of turn.value) i
-  seat_here i = ap (λ (es : Entries). seats.seat_of es i) (entries_grow ∙ sym (entries_back (lines_of turn.value) ∙ ap entries_of (pages_back turn.value.limits turn.value.pages)))
+  seat_here i = ap (λ (es : Entries). seats.seat_of es i) (entries_grow ∙ sym (entries_told turn.value))
 
   front_count : length (entries_of h.found.pages) ≡ length turn.seat.front
-  front_count =
-      length-map h.found.pages (λ (p : Page). p.entry) ∙ sym (length-map h.found.pages (λ (p : Page). record { limits = h.found.limits; page = p })) ∙ ap length (sym h.front_is)
+  front_count = told_count h.found ∙ ap length (sym h.front_is)
 
   later_count : length (entries_of h.found.pages ++ entries_of h.since) ≡ length (lines_of turn.value)
-  later_count =
-      ap length entries_grow ∙ length-map turn.value.pages (λ (p : Page). p.entry) ∙ sym (length-map turn.value.pages (λ (p : Page). record { limits = turn.value.limits; page = p }))
+  later_count = ap length entries_grow ∙ told_count turn.value
 
   pub adding_own : IsOwnFrom seat_of (lines_of turn.value) (length turn.seat.front) turn.seat.number
   adding_own i k le lt is =
@@ -79,27 +77,18 @@ module _ (visit : Visiting) (turn : Turning Booked Line) (e : Enters visit turn)
   opened : opened_in (entries_of turn.value.pages) session ≡ Some turn.seat.number
   opened = ap (opened_in (entries_of turn.value.pages)) same ∙ e.opened ∙ ap Some (sym e.number_is)
 
+  -- these pages came
+  pub adding_pages : (since : Pages) (new : Booked) → new.limits ≡ turn.value.limits → turn.value.pages ++ since ≡ new.pages → AreOwn session (state (entries_of turn.value.pages)) (entries_of since)
+      → Adding session (turned turn new)
+  adding_pages since new limits grows own = record { found = turn.value; front_is = e.front_is; limits_are = limits; since = since; grows = grows; opened = opened; own = own }
+
   pub adding_step : {A : Type 0} (t : Option (Taken A)) (new : Booked) → new ≡ after_step turn.value t → Own session (state (entries_of turn.value.pages)) t → Adding session (turned turn new)
-  adding_step t new is own = record {
-    found = turn.value;
-    front_is = e.front_is;
-    limits_are = ap (λ (b : Booked). b.limits) is;
-    since = bare (appended t);
-    grows = sym (ap (λ (b : Booked). b.pages) is);
-    opened = opened;
-    own = subst (AreOwn session (state (entries_of turn.value.pages))) (sym (entries_bare (appended t))) own;
-  }
+  adding_step t new is own =
+      adding_pages (bare (appended t)) new (ap (λ (b : Booked). b.limits) is) (sym (ap (λ (b : Booked). b.pages) is))
+      (subst (AreOwn session (state (entries_of turn.value.pages))) (sym (entries_bare (appended t))) own)
 
   pub adding_none : (new : Booked) → new ≡ turn.value → Adding session (turned turn new)
-  adding_none new is = record {
-    found = turn.value;
-    front_is = e.front_is;
-    limits_are = ap (λ (b : Booked). b.limits) is;
-    since = [];
-    grows = append-nil turn.value.pages ∙ sym (ap (λ (b : Booked). b.pages) is);
-    opened = opened;
-    own = tt;
-  }
+  adding_none new is = adding_pages [] new (ap (λ (b : Booked). b.limits) is) (append-nil turn.value.pages ∙ sym (ap (λ (b : Booked). b.pages) is)) tt
 
   pub took_by : (new : Booked) (later : Visiting) → Leaves session (turned turn new) later → new.limits ≡ turn.value.limits → (step : Booked → Pages → Type 0) → step turn.value new.pages → Took visit later step
   took_by new later l limits step h = record {

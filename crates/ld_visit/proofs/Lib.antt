@@ -4,3 +4,6 @@ pub mod Leaving
 pub mod Allowing
 pub mod Pinning
 pub mod Wanting
+pub mod Opening
+pub mod Closing
+pub mod Landing

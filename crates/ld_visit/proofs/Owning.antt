@@ -26,11 +26,11 @@ get_next : {A : Type 0} (xs ys : List A) (y : A) → slice_get (xs ++ y ∷ ys) 
 get_next [] ys y = refl
 get_next (x ∷ xs) ys y = get_next xs ys y
 
-seat_next : (before rest : Entries) (entry : Entry (List ℕ) Given) → seat_of (before ++ entry ∷ rest) (length before) ≡ seat_in before entry
+pub seat_next : (before rest : Entries) (entry : Entry (List ℕ) Given) → seat_of (before ++ entry ∷ rest) (length before) ≡ seat_in before entry
 seat_next before rest entry =
     ap (λ (l : Entries). seat_found l (slice_get (before ++ entry ∷ rest) (length before))) (take_front before (entry ∷ rest)) ∙ ap (seat_found before) (get_next before rest entry)
 
-same_seat : (a b : ℕ) → Some a ≡ Some b → a ≡ b
+pub same_seat : (a b : ℕ) → Some a ≡ Some b → a ≡ b
 same_seat a b e = cc
 
 -- what belongs to the session belongs to the seat in which it was opened

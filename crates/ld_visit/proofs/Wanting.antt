@@ -6,7 +6,7 @@ use Rattle.ld_history.specs.Legal.{History, is_in_stock, state}
 use Rattle.ld_history.specs.Rules.{has_pinned, is_full, on_session}
 use Rattle.ld_history.specs.Steps as steps
 use Rattle.ld_history.specs.Steps.{Taken, may_lack}
-use Rattle.ld_history.specs.Words.{archive_has_room, at_iri, at_number, is_pinned, is_some_and, is_stored, places}
+use Rattle.ld_history.specs.Words.{archive_has_room, at_iri, at_number, is_pinned, is_some_and, is_stored, least_holder, places}
 use Rattle.ld_history.specs.declared.limits.Limits.{Limits}
 use Rattle.ld_history.specs.declared.session.Flying.{Flying}
 use Rattle.ld_history.specs.declared.session.Last.TheVariants as last
@@ -18,8 +18,9 @@ use Rattle.ld_moves.specs.Standing.{Stands}
 use Rattle.ld_moves.proofs.Keeping.{in_stock_found, session_found}
 use Rattle.ld_visit.specs.Ending.{MayLack}
 use Rattle.ld_visit.specs.Taking.{TakesOr}
+use Rattle.ld_visit.specs.Turns.{AreOwn}
 use Rattle.ld_visit.proofs.Allowing.{stands_found}
-use Rattle.ld_visit.proofs.Owning.{Own, own_event, own_found, own_if}
+use Rattle.ld_visit.proofs.Owning.{Own, own_event, own_found, own_if, own_some, own_where}
 
 pub taken_or : {A B E : Type 0} (told : A → B) (step : ℕ → Booked → Option (Taken A)) (now b : Booked) → now ≡ b → (n s : ℕ) → n ≡ s → (new : Booked) (r : Result B E)
     → IfOk r (Says told (step n now)) → OnOk r (new ≡ after_step now (step n now)) → OnErr r (new ≡ now) → (new.limits ≡ b.limits) × TakesOr told (step s) r b new.pages
@@ -61,4 +62,28 @@ module _ (history : History) (session : ℕ) (iri : List ℕ) where
   pub lack_own : Own session (state history.entries) (steps.lack_step history session iri)
   lack_own = own_found session (state history.entries) _ (λ s. own_if session (state history.entries) (may_lack (is_in_stock history.entries) iri s) _ _
       (own_if session (state history.entries) (not (nat_lt (length s.held) history.limits.held)) _ _ (own_event session, tt) (own_if session (state history.entries) (is_stored (state history.entries) iri) _ _ (own_event session, tt) (joining_own s (at_iri (state history.entries).leads iri)))) tt)
+      (at_number (state history.entries).sessions session)
+
+  -- ---- an eviction
+  unrevised_own : (s : Session) (o : Option Flying) → AreOwn session (state history.entries) (steps.evicting_unrevised (state history.entries) session iri s o).entries
+  unrevised_own s None = (own_event session, (own_event session, tt))
+  unrevised_own s (Some revision) = (own_event session, tt)
+
+  unheld_own : (s : Session) (o : Option ℕ) → AreOwn session (state history.entries) (steps.evicting_unheld (state history.entries) session iri s o).entries
+  unheld_own s None = unrevised_own s (at_iri (state history.entries).revisions iri)
+  unheld_own s (Some holder) = (own_event session, tt)
+
+  pub evict_own : Own session (state history.entries) (steps.evict_step history session iri)
+  evict_own = own_found session (state history.entries) _ (λ s. own_where session (state history.entries) (is_pinned s.last) _
+      (own_some session (state history.entries) (is_stored (state history.entries) iri) _ _ (unheld_own s (least_holder (state history.entries) iri)) (own_event session, tt)))
+      (at_number (state history.entries).sessions session)
+
+  -- ---- a revision
+  leading_own : (s : Session) (o : Option Flying) → AreOwn session (state history.entries) (steps.revising_unrevised history.limits (state history.entries) session iri s o).entries
+  leading_own s None = own_some session (state history.entries) (archive_has_room history.limits (state history.entries)) _ _ (own_event session, tt) (own_event session, tt)
+  leading_own s (Some revision) = (own_event session, tt)
+
+  pub revise_own : Own session (state history.entries) (steps.revise_step history session iri)
+  revise_own = own_found session (state history.entries) _ (λ s. own_where session (state history.entries) (is_pinned s.last) _
+      (own_some session (state history.entries) (is_stored (state history.entries) iri) _ _ (leading_own s (at_iri (state history.entries).revisions iri)) (own_event session, tt)))
       (at_number (state history.entries).sessions session)

@@ -1,5 +1,6 @@
 -- When a session may pin, and how its request may be answered, by what it has seen. It stays so until its next turn.
 use Rattle.std.specs.Prelude.{◌≡◌, ◌⊎◌, ◌≤◌, ℕ, List, length, Some, false}
+use Rattle.ld_flight.specs.Passes.{Flight}
 use Rattle.ld_history.specs.Legal.{is_in_stock, state}
 use Rattle.ld_history.specs.Rules.{end_of}
 use Rattle.ld_history.specs.Words.{is_under_way}
@@ -7,19 +8,21 @@ use Rattle.ld_history.specs.declared.event.How.{How}
 use Rattle.ld_history.specs.declared.event.How.TheVariants as how
 use Rattle.ld_history.specs.declared.session.End.{End}
 use Rattle.ld_history.specs.declared.session.End.TheVariants as end
+use Rattle.ld_history.specs.declared.session.Kind.{Kind}
 use Rattle.ld_history.specs.declared.session.Last.TheVariants as last
 use Rattle.ld_book.specs.Pages.{Pages, entries_of}
-use Rattle.ld_moves.specs.Standing.{HasPinned, Stands}
+use Rattle.ld_moves.specs.Standing.{HasPinned, IsFlightAt, Stands}
 use Rattle.ld_moves.specs.Moving.{version_in}
 
 -- the flight ended so
 abbrev pub Ended : Pages → ℕ → End → Type 0
 Ended pages flight how = end_of (state (entries_of pages)) flight ≡ Some how
 
--- the session waits for this flight: it led it, or joined it, or led it as a revision
+-- the session waits for a context that it lacks: it led this flight, or joined it
 abbrev pub IsLoading : Pages → ℕ → ℕ → Type 0
 IsLoading pages session flight = Stands pages session (last.Led flight) ⊎ Stands pages session (last.Joined flight)
 
+-- it waits for this flight, for a context that it lacks or that it revises
 abbrev pub Awaits : Pages → ℕ → ℕ → Type 0
 Awaits pages session flight = IsLoading pages session flight ⊎ Stands pages session (last.ReviseLed flight)
 
@@ -72,3 +75,8 @@ MayEnd pages session (how.LoadFault flight) = HasFailed pages session flight
 MayEnd pages session (how.Revised version) = HasRevised pages session (end.Published version)
 MayEnd pages session how.Same = HasRevised pages session end.Same
 MayEnd pages session _ = ⊥
+
+-- The flight of the pass is one that the session led for the pass's IRI, and is under way.
+pub record IsLeading (pages : Pages) (session : ℕ) (pass : Flight) : Type 0 where
+  pub kind : Kind
+  pub is : IsFlightAt pages pass.number (record { iri = pass.iri; kind = kind; session = session; end = end.UnderWay })

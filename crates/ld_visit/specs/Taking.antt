@@ -1,12 +1,15 @@
 -- Which step a session took over the book that it found, by the answer of its call, and the pages then.
 use Rattle.std.specs.Prelude.{◌≡◌, ℕ, Option, Some, Result, Ok, Err}
 use Rattle.std.specs.Arc.{arc_value}
+use Rattle.std.specs.Option.{option_map}
 use Rattle.ld_store.specs.Snapshots.{stock_at}
 use Rattle.ld_flight.specs.Readied.{Readied}
+use Rattle.ld_history.specs.Rules.{end_of}
 use Rattle.ld_history.specs.Steps.{Answers, Taken, pin_step, publish_step}
 use Rattle.ld_history.specs.declared.answers.PinAnswer.TheVariants as pin_answer
-use Rattle.ld_book.specs.Pages.{Booked, Pages, after_answer, after_step, given_of, history_of, stock_of}
-use Rattle.ld_book.specs.Said.{IsRefusal, Says, told_publish}
+use Rattle.ld_book.specs.Pages.{Booked, Pages, after_answer, after_step, given_of, history_of, state_of, stock_of}
+use Rattle.ld_book.specs.Said.{IsRefusal, Says, told_end, told_publish}
+use Rattle.ld_book.specs.declared.answers.LookAnswer.{LookAnswer}
 use Rattle.ld_book.specs.declared.answers.Pin.{Pin}
 use Rattle.ld_book.specs.declared.answers.PublishAnswer.{PublishAnswer}
 use Rattle.ld_book.specs.declared.answers.RoomRefusal.{RoomRefusal}
@@ -34,3 +37,7 @@ Lands ready (Ok answer) found pages =
     Says told_publish (publish_step (history_of found) ready.pass.number (given_of ready)) answer
     × (pages ≡ (after_answer found (publish_step (history_of found) ready.pass.number (given_of ready)) ready.doc).pages)
 Lands ready (Err refusal) found pages = pages ≡ found.pages
+
+-- a look at a flight, which leaves all as it is
+abbrev pub Looks : ℕ → LookAnswer → Booked → Pages → Type 0
+Looks flight answer found pages = (option_map told_end (end_of (state_of found) flight) ≡ Some answer) × (pages ≡ found.pages)

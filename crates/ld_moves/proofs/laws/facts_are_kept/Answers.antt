@@ -1,4 +1,4 @@
-use Rattle.ld_moves.proofs.Keeping.{ended_found, in_stock_found, led_found, of_found, session_found}
+use Rattle.ld_moves.proofs.Keeping.{ended_found, in_stock_found, led_found, of_stays, session_found}
 use Rattle.ld_moves.proofs.laws.facts_are_kept.Goals as goal
 
 pub returns-clause-session : goal.returns-clause-session
@@ -11,7 +11,7 @@ pub returns-clause-ended : goal.returns-clause-ended
 returns-clause-ended c session limits front found number how f over is = ended_found session limits front found f number how over is
 
 pub returns-clause-there : goal.returns-clause-there
-returns-clause-there c session limits front found number iri f h = of_found session limits front found f number iri h
+returns-clause-there c front later number iri p h = of_stays front later p number iri h
 
 pub returns-clause-stock : goal.returns-clause-stock
 returns-clause-stock c session limits front found iri version f le = in_stock_found session limits front found f iri version le
