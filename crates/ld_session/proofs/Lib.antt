@@ -1,0 +1,10 @@
+pub mod Moving
+pub mod Turning
+pub mod Flights
+pub mod Ending
+pub mod Lacking
+pub mod Requesting
+pub mod Renewing
+pub mod Opening
+pub mod Closing
+pub mod Away

@@ -1,0 +1,4 @@
+pub mod Adding
+pub mod Landing
+pub mod Requesting
+pub mod Serving
