@@ -1,4 +1,4 @@
-//! A result at work (JSON-LD 1.1 API, 5.1.2, 6): entries come in any order, and items are added to those that
+//! A result at work (JSON-LD 1.1 API, 5.1.2, 12): entries come in any order, and items are added to those that
 //! a name has, each time in logarithmic time.
 ghost use Rattle.std.specs.Prelude.{◌≡◌, ◌++◌, ◌∷◌, [], IfOk, OnOk, option_map};
 ghost use Rattle.ld_tree.specs.Maps.{empty as no_entries, find, put as with_put};

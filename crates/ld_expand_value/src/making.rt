@@ -6,6 +6,7 @@ ghost use Rattle.ld_rec.specs.Kinds.{one_entry as map_of_one, two_entries as map
 use ld_tree::{Entries, NoMemory, Text, Tree};
 use std::alloc::Global;
 
+/// The map without an entry.
 pub fn empty(alloc: Global) -> Entries<Tree>
     ensures { result ≡ no_entries }
 {
@@ -41,6 +42,7 @@ pub fn put(
     Ok(())
 }
 
+/// The text, copied into a tree.
 pub fn text_tree(alloc: Global, text: &str) -> Result<Tree, NoMemory>
     ensures { IfOk result (λ tree. tree ≡ tree_of_text text.now) }
 {

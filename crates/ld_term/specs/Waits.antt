@@ -73,7 +73,7 @@ from_ready check rest ready made =
 
 -- ---- a value whose parts are defined first
 
--- what is left once the value's own names are defined: 12.3 to 28, 13.4 to 13.7, 14.2.3 to 28, and 14.2.4.2 to 28
+-- what is left once the value's own names are defined: 12.2 to 28, 13.4 to 13.7, 14.2.3 to 28, and 14.2.4.2 to 28
 abbrev pub aimed : Check → Define → terms.Rest → Sorted Tree → Task → Sorted Tree → Aim → List ℕ → Made → Answer Made
 aimed check define rest local task entries Typed value made =
     with_type (meaning_in made value) (draft_of task made)
@@ -138,11 +138,11 @@ abbrev pub value_and_mapped : Check → Define → terms.Rest → Sorted Tree �
 value_and_mapped check define rest local task entries value made =
     by_id_value define local task.term task.simple value (draft_of task made) >>= mapped_or_ignored check rest task.term entries task.previous made
 
--- 13.3 to 13.7
+-- 13.4 to 13.7
 abbrev pub first_and_backed : Check → Define → terms.Rest → Sorted Tree → Task → Sorted Tree → List ℕ → Made → Answer Made
 first_and_backed check define rest local task entries value made = first_all define local value made >>= aimed check define rest local task entries Backward value
 
--- 12.3 to 28
+-- 12.2 to 28
 abbrev pub first_and_typed : Check → Define → terms.Rest → Sorted Tree → Task → Sorted Tree → List ℕ → Made → Answer Made
 first_and_typed check define rest local task entries value made =
     first_all define local value made >>= (λ m. with_type (meaning_in m value) (draft_of task m))

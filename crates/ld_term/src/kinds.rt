@@ -23,7 +23,7 @@ use ld_rec::{Def, Stop};
 use ld_tree::{Entries, NoMemory, Text, Tree};
 use std::alloc::Global;
 
-// Steps 12.3 and 12.4.
+// Steps 12.2 to 12.5, where the value's own names are defined.
 fn with_type(alloc: Global, made: &Ctx, value: &Text, def: Def) -> Result<Def, Stop>
     ensures { (table : Sorted Bool) → Comes (λ d. give (record { def = d; made = made_of made.now table })) result (with_type (meaning_in (made_of made.now table) value.now) (record { def = def; made = made_of made.now table })) }
 {
@@ -39,7 +39,7 @@ fn with_type(alloc: Global, made: &Ctx, value: &Text, def: Def) -> Result<Def, S
     Ok(def)
 }
 
-/// Steps 12.3 to 28, where the value's own names are defined.
+/// Steps 12.2 to 28, where the value's own names are defined.
 pub fn typed(
     alloc: Global,
     made: &mut Ctx,
@@ -70,7 +70,7 @@ pub fn typed(
     either_way(alloc, made, local, defined, rest, entries, task)
 }
 
-// Steps 12.3 to 28.
+// Steps 12.2 to 28.
 fn first_and_typed(
     alloc: Global,
     made: &mut Ctx,

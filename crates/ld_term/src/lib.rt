@@ -16,8 +16,9 @@
 //! that gives for a Waiting's scoped context what the caller tells of it. To be believed, since they speak by them:
 //! `specs/Comes.antt` (a call beside an answer over each stock), `specs/Waits.antt` and `specs/Runs.antt` (what is left
 //! of a definition that waits; what a caller tells), and for the measure `specs/Sizes.antt` and `specs/NextSizes.antt`.
-//! The modules, from below: half and table, ending (steps 20 to 28), containers (19), first (what is defined before a
-//! value is expanded), mapping (15 to 18), named (14), reverse (13), kinds (10 to 12), begin (1 to 9), run.
+//! The modules, from below: half, rest and table, ending (steps 20 to 28), words, containers (19), first (what is
+//! defined before a value is expanded), mapping (15 to 18), named (14), reverse (13), kinds (7 to 12), begin (1 to 6),
+//! run.
 #![tactic(auto)]
 
 mod begin;

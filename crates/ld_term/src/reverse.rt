@@ -133,7 +133,7 @@ pub fn backed(
     Ok(Step::Done)
 }
 
-// Steps 13.3 to 13.7.
+// Steps 13.4 to 13.7.
 fn first_and_backed(
     alloc: Global,
     made: &mut Ctx,
@@ -158,7 +158,7 @@ fn first_and_backed(
     }
 }
 
-// Steps 13.3 to 13.7, where the value hasn't the form of a keyword.
+// Steps 13.3 to 13.7.
 fn backward_text(
     alloc: Global,
     made: &mut Ctx,
