@@ -36,7 +36,7 @@ with_opened : (store : Store) (change : Flight → Store) (o : Option Flight) �
 with_opened store change None same = refl
 with_opened store change (Some f) same = same f
 
-same_opened : (store : Store) (given : Option Given) (e : Event (List ℕ)) → is_inside e ≡ true → (after_event store given e).opened ≡ store.opened
+pub same_opened : (store : Store) (given : Option Given) (e : Event (List ℕ)) → is_inside e ≡ true → (after_event store given e).opened ≡ store.opened
 same_opened store given (event.Opened s k) inside = cc
 same_opened store given (event.Pinned s r t v) inside = refl
 same_opened store given (event.Found s iri) inside = refl

@@ -3,3 +3,4 @@ pub mod Closing
 pub mod Growing
 pub mod Keeping
 pub mod Loads
+pub mod Opening

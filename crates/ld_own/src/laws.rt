@@ -22,13 +22,16 @@ pub fn own_entries_are_placed()
 {}
 
 /// What a session has added from one front to another adds up, and is what its own entries gain. None of what came while
-/// its seat had no turn is the session's, where none belongs to the seat; and none comes once the session is closed.
+/// its seat had no turn is the session's, where none belongs to the seat; none comes before
+/// the session is opened, and none once it is closed.
 pub fn additions_add_up()
     ensures none { (session : ℕ) (front : Entries) → Adds session front [] front }
     ensures more { (session : ℕ) (a b c : Entries) (mine more : List Placed) → Adds session a mine b → Adds session b more c → Adds session a (mine ++ more) c }
     ensures own { (session : ℕ) (front later : Entries) (mine : List Placed) → Adds session front mine later → own_placed session later ≡ own_placed session front ++ mine }
     ensures quiet { (session seat : ℕ) (front later : Entries) → opened_in front session ≡ Some seat → IsPrefix front later
         → ((place : ℕ) → length front ≤ place → place < length later → seat_of later place ≢ Some seat) → Adds session front [] later }
+    ensures before { (limits : Limits) (session : ℕ) (entries : Entries) → limits.held ≤ 64 → Legal limits entries
+        → (state entries).opened < session → own_placed session entries ≡ [] }
     ensures closed { (limits : Limits) (session : ℕ) (front more : Entries) → limits.held ≤ 64 → Legal limits (front ++ more)
         → session ≤ (state front).opened → at_number (state front).sessions session ≡ None → Adds session front [] (front ++ more) }
 {}

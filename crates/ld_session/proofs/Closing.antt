@@ -51,7 +51,7 @@ use Rattle.ld_turn.specs.Known.{Known}
 use Rattle.ld_visit.specs.Visits.{Closed, Opened, Visiting, limits_in, pages_in}
 use Rattle.ld_visit.proofs.Entering.{pages_back}
 use Rattle.ld_session.specs.Serving.{HadNoRoom, IsFull, IsServed, Moving, WasFull}
-use Rattle.ld_session.proofs.Opening.{none_before}
+use Rattle.ld_own.proofs.Opening.{none_before}
 
 -- ---- fronts of lines and of pages
 pub pages_on : (a : Lines) (limits : Limits) (pages : Pages) → IsPrefix a (ruled limits pages) → IsPrefix (pages_in a) pages

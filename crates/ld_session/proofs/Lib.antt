@@ -5,6 +5,5 @@ pub mod Ending
 pub mod Lacking
 pub mod Requesting
 pub mod Renewing
-pub mod Opening
 pub mod Closing
 pub mod Away

@@ -49,8 +49,9 @@ impl<'a, R: Wait> Desk<'a, R> {
         }
     }
 
-    // Has the context loaded anew for a request that has pinned this version.
-    fn reload<L: Loader>(
+    /// Has the stored context of the IRI loaded anew for a request that has pinned this version, and answers the request.
+    /// The outcome is `Revised`, `Same`, `NotStored`, `Flying`, `ArchiveFull`, `LoadFault` or `NoMemory`.
+    pub fn reload<L: Loader>(
         &self,
         visit: Visit,
         loader: &mut L,

@@ -15,7 +15,7 @@ use std::sync::Wait;
 /// What a session's requests are answered with, beside its loader: the runtime that it waits by, where memory comes from,
 /// and the hall that it shares with other sessions.
 #[derive(Drop)]
-pub(crate) struct Desk<'a, R: Wait> {
+pub struct Desk<'a, R: Wait> {
     pub rt: &'a R,
     pub alloc: Global,
     pub hall: &'a Hall<Blank>,

@@ -1,6 +1,7 @@
 use Rattle.std.proofs.Common.{refl}
 use Rattle.ld_own.proofs.Adding.{adds_none, adds_own, adds_trans, quiet_adds}
 use Rattle.ld_own.proofs.Closing.{gone_stays}
+use Rattle.ld_own.proofs.Opening.{none_before}
 use Rattle.ld_own.proofs.laws.additions_add_up.Goals as goal
 
 pub returns-clause-none : goal.returns-clause-none
@@ -17,3 +18,6 @@ returns-clause-quiet c session seat front later opened grows quiet = quiet_adds 
 
 pub returns-clause-closed : goal.returns-clause-closed
 returns-clause-closed c limits session front more small legal was gone = record { since = more; is = refl; own = gone_stays limits small session front more legal (record { was = was; is = gone }) }
+
+pub returns-clause-before : goal.returns-clause-before
+returns-clause-before c limits session entries small legal ahead = none_before limits small session entries legal ahead

@@ -1,43 +1,22 @@
 -- Before a session is opened none of the entries is its own.
-use Rattle.std.proofs.Common.{◌≡◌, ◌∙◌, ℕ, ◌+◌, ◌≤◌, ◌<◌, Bool, true, false, List, [], ◌∷◌, ◌++◌, refl, sym, ap, subst, arith, eqb-true}
+use Rattle.std.proofs.Common.{◌≡◌, ℕ, ◌≤◌, ◌<◌, Bool, true, false, List, [], ◌∷◌, ◌++◌, refl, arith, eqb-true}
 use Rattle.std.specs.Prelude.{Option, Some, None, if◌then◌else◌, ◌==◌}
-use Rattle.ld_history.specs.After.{after, after_event, with_flight}
+use Rattle.ld_history.specs.After.{after}
 use Rattle.ld_history.specs.ByTurns.{allows, LegalFrom}
 use Rattle.ld_history.specs.Counts.{owner}
 use Rattle.ld_history.specs.Legal.{Entries, Legal, replay, state}
 use Rattle.ld_history.specs.Store.{Store, empty_store}
-use Rattle.ld_history.specs.Words.{flight_at}
 use Rattle.ld_history.specs.declared.event.Event.{Event}
 use Rattle.ld_history.specs.declared.event.Event.TheVariants as event
 use Rattle.ld_history.specs.declared.event.Entry.{Entry}
 use Rattle.ld_history.specs.declared.event.Given.{Given}
 use Rattle.ld_history.specs.declared.limits.Limits.{Limits}
-use Rattle.ld_history.specs.declared.session.Flight.{Flight}
 use Rattle.ld_history.proofs.LawReads.{read_close, read_open}
 use Rattle.ld_history.proofs.LawSound.{Sound, sound-after, sound-empty}
 use Rattle.ld_history.proofs.LawTold.{by_turns}
 use Rattle.ld_history.proofs.LawTracked.{is_inside, moved}
 use Rattle.ld_own.specs.Own.{Placed, own_placed, own_placed_from, placed}
-
-with_opened : (store : Store) (change : Flight → Store) (o : Option Flight) → ((f : Flight) → (change f).opened ≡ store.opened) → (with_flight store change o).opened ≡ store.opened
-with_opened store change None same = refl
-with_opened store change (Some f) same = same f
-
-same_opened : (store : Store) (given : Option Given) (e : Event (List ℕ)) → is_inside e ≡ true → (after_event store given e).opened ≡ store.opened
-same_opened store given (event.Opened s k) inside = cc
-same_opened store given (event.Pinned s r t v) inside = refl
-same_opened store given (event.Found s iri) inside = refl
-same_opened store given (event.Led s iri f) inside = refl
-same_opened store given (event.Joined s iri f) inside = refl
-same_opened store None (event.Published f v) inside = refl
-same_opened store (Some g) (event.Published f v) inside = with_opened store _ (flight_at store.flights f) (λ _. refl)
-same_opened store given (event.Failed f x y) inside = with_opened store _ (flight_at store.flights f) (λ _. refl)
-same_opened store given (event.Lapsed f) inside = with_opened store _ (flight_at store.flights f) (λ _. refl)
-same_opened store given (event.Evicted s iri v) inside = refl
-same_opened store given (event.ReviseLed s iri f) inside = refl
-same_opened store given (event.Same f) inside = with_opened store _ (flight_at store.flights f) (λ _. refl)
-same_opened store given (event.Answered s r how) inside = refl
-same_opened store given (event.Closed s) inside = cc
+use Rattle.ld_own.proofs.Closing.{same_opened}
 
 module _ (limits : Limits) (small : limits.held ≤ 64) where
   -- An entry that may come belongs to a session that was opened, and as many are opened then, or more.
