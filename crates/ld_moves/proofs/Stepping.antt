@@ -106,7 +106,7 @@ module _ (session : ℕ) (limits : Limits) (front : Pages) (found : Booked) (f :
         go None at e = cc
         go (Some s) at e = where_is s at (rules.may_answer (is_in_stock (entries_of found.pages)) found.limits (state (entries_of found.pages)) session s.request how) refl e
 
-    answer_entries : appended (steps.answer_step (history_of found) session how) ≡ plain (event.Answered session t.answer how) ∷ []
+    pub answer_entries : appended (steps.answer_step (history_of found) session how) ≡ plain (event.Answered session t.answer how) ∷ []
     answer_entries = let p = answer_parts in ap appended is ∙ ap (λ (x : Taken ℕ). x.entries) p.taken_is ∙ ap (λ r. plain (event.Answered session r how) ∷ []) (sym (ap (λ (x : Taken ℕ). x.answer) p.taken_is))
 
     answer_ok : allows limits (state (entries_of found.pages)) (plain (event.Answered session t.answer how)) ≡ true

@@ -64,7 +64,7 @@ module _ (seat later : Known Line) (refused : RoomRefusal) (n : NotOpened seat l
       record { count = sym (length-map n.found.pages (λ (p : Page). p.entry)) ∙ sym counted ∙ none.1; full = none.0 }
 
   module _ (book : Booked) (grows : IsPrefix later.front (lines_of book)) where
-    was_full : (events : ℕ) → refused ≡ room.HistoryFull events → WasFull n.found.limits (pages_in seat.front) book.pages events
+    pub was_full : (events : ℕ) → refused ≡ room.HistoryFull events → WasFull n.found.limits (pages_in seat.front) book.pages events
     was_full events is = record {
       front = n.found.pages;
       seen = pages_on seat.front n.found.limits n.found.pages n.finds.grows;
