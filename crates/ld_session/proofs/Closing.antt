@@ -65,6 +65,9 @@ same_limits a [] limits pages some p = absurd (omega (arith, some))
 same_limits a (x ∷ front) limits [] some p = let e = p.1 in cc
 same_limits a (x ∷ front) limits (y ∷ pages) some p = sym (ap limits_in p.1)
 
+ruled_on : (limits : Limits) (a b : Pages) → IsPrefix a b → IsPrefix (ruled limits a) (ruled limits b)
+ruled_on limits a b p = (ruled limits p.0, sym (map-append (λ (page : Page). record { limits = limits; page = page }) a p.0) ∙ ap (ruled limits) p.1)
+
 -- ---- an opening
 module _ (seat : Known Line) (visit : Visiting) (o : Opened seat visit) where
   abbrev opening : Entries
@@ -163,6 +166,17 @@ module _ (visit : Visiting) (seat : Known Line) (c : Closed visit seat) where
         let none = gone_stays book.limits small visit.session (entries_of closed_pages) (entries_of rest) lawful gone_closed in
         ap (own_placed visit.session) (sym all) ∙ grown empty_store visit.session (entries_of closed_pages) (entries_of rest) ∙ ap (λ (ps : List Placed). own_placed visit.session (entries_of closed_pages) ++ ps) none
         ∙ append-nil (own_placed visit.session (entries_of closed_pages))
+
+-- what a seat has seen at the close begins with what it had seen at the opening
+pub front_closed : (start : Known Line) (visit later : Visiting) (left : Known Line) (o : Opened start visit) (c : Closed later left) → later.limits ≡ visit.limits → IsPrefix visit.pages later.pages → IsPrefix start.front left.front
+front_closed start visit later left o c same grows =
+    let closed = closed_pages later left c in
+    let step = open_step (history_of o.found) start.number in
+    let opened : IsPrefix o.found.pages visit.pages = subst (λ (ps : Pages). IsPrefix o.found.pages ps) (sym o.pages_are) (bare (appended step), refl) in
+    let pages : IsPrefix o.found.pages closed = prefix_trans o.found.pages visit.pages closed opened (prefix_trans visit.pages later.pages closed grows (grows_closed later left c)) in
+    let whole : IsPrefix start.front (ruled o.found.limits closed) = prefix_trans start.front (ruled o.found.limits o.found.pages) (ruled o.found.limits closed) o.finds.grows (ruled_on o.found.limits o.found.pages closed pages) in
+    let limits : c.found.limits ≡ o.found.limits = c.finds.limits_are ∙ same ∙ o.limits_are in
+    subst (λ (ls : Lines). IsPrefix start.front ls) (sym c.front_is) (subst (λ (l : Limits). IsPrefix start.front (ruled l closed)) (sym limits) whole)
 
 -- ---- ends
 ends_as : (full other : ℕ → Type 0) → ((n : ℕ) → full n → other n) → (came went : List ℕ) (source : Incoming) (heard : List Heard) (text : List ℕ) (e : SessionEnd)

@@ -53,6 +53,7 @@ pub fn serve_session<R: Wait, N: Link, L: Loader>(
     ensures lock { result.seats.book.lock ≡ seats.book.lock }
     ensures number { result.seats.book.number ≡ seats.book.number }
     ensures free { IsFree result.seats.book }
+    ensures seen { IsPrefix seats.book.front result.seats.book.front }
 
     // However the book goes on, it tells what came and went, and what the loader did.
     ensures served { (came went : List ℕ) × Comes (N.incoming link.old) (N.incoming link.new) came × Goes (N.outgoing link.old) (N.outgoing link.new) went

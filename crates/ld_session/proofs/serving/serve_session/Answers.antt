@@ -14,7 +14,7 @@ use Rattle.ld_turn.specs.Known.{Known}
 use Rattle.ld_visit.specs.Visits.{pages_in}
 use Rattle.ld_session.specs.Serving.{IsConnection, IsServed}
 use Rattle.ld_session.proofs.Away.{goes_away, turned_away, went_away}
-use Rattle.ld_session.proofs.Closing.{served}
+use Rattle.ld_session.proofs.Closing.{front_closed, served}
 use Rattle.ld_session.proofs.serving.serve_session.Goals as goal
 use Rattle.ld_session.proofs.serving.serve_session.Goals.{in-Ok, in-Err}
 
@@ -26,6 +26,20 @@ returns-clause-number g c =
           let m = t.told.moved [] w.in-Ok.ensures.opened.sound in
           ap (λ b. b.0.number) w.book-is ∙ w.close.ensures.number_is ∙ m.number_is ∙ w.in-Ok.ensures.opened.number_is
       | in-Err w ↦ ap (λ b. b.0.number) w.book-is ∙ w.in-Err.ensures.refused.number_is
+    ]
+
+pub returns-clause-seen : goal.returns-clause-seen
+returns-clause-seen g c =
+    let start = c.args.seats.book in
+    elim c.match-open.branch [
+      | in-Ok w ↦
+          let o = w.in-Ok.ensures.opened in
+          let m = (w.converse-visit.ensures.talked.4.told.moved [] o.sound).moves in
+          let seen = front_closed start w.in-Ok.visit w.converse-visit.result.0 w.close.result o w.close.ensures m.limits_are m.grows in
+          subst (λ b. IsPrefix start.front b.0.front) (sym w.book-is) seen
+      | in-Err w ↦
+          let n = w.in-Err.ensures.refused in
+          subst (λ b. IsPrefix start.front b.0.front) (sym w.book-is) (subst (λ (ls : List Line). IsPrefix start.front ls) (sym n.front_is) n.finds.grows)
     ]
 
 -- what the function tells of the link and the loader after it, and of what it gives back
